@@ -1,7 +1,6 @@
 """Which reading of a sheet with rounds is answered: the first of which some solid is kept, once its rounds are rounded back; or all of
 them, where that is asked for."""
 import argparse
-import itertools
 import time
 from collections.abc import Callable
 from typing import NamedTuple
@@ -11,10 +10,12 @@ from .answers import WHOLE, answer_of
 from .drawing import lines_within
 from .given import Given, given_in
 from .kept import Outcome
-from .messages import Progress, Refused, many
+from .messages import Progress, many
 
 # For how many seconds readings are tried, unless the caller says otherwise.
 SECONDS = 300.0
+# What a sheet leaves open of its lines.
+OPEN = "Which of its lines are tangent edges, or which corners oblique ones cut off or fill,"
 # What runs the program over a drawing of so many decimals.
 Asker = Callable[[bytes, int], program.Run]
 
@@ -48,9 +49,20 @@ class Readings(NamedTuple):
         return next(iter(self.kept), self.first)
 
     @property
+    def elsewhere(self) -> int:
+        """How many solids are kept in other readings than the likeliest one."""
+        return sum(len(it.outcome.kept) for it in self.kept[1:])
+
+    @property
     def choices(self) -> set[str]:
         """The choices of the solids that are kept in it."""
         return {one.solid.choice for one in self.likeliest.outcome.kept} if self.likeliest else set()
+
+    @property
+    def made(self) -> str:
+        """What is promised of the solids: of what they are made."""
+        kinds = self.likeliest.given.kinds if self.likeliest else "rounds"
+        return f"made of boxes and these {kinds}, each standing free"
 
     @property
     def where(self) -> str:
@@ -63,7 +75,7 @@ class Readings(NamedTuple):
         number = self.kept[0].given.reading[0] if self.kept else 0
         if self.among == 1 and number < 2:
             return []
-        rows = [f"Which of its lines are tangent edges the sheet doesn't tell: of {many(self.among, 'reading')} {self.tried} "
+        rows = [f"{OPEN} the sheet doesn't tell: of {many(self.among, 'reading')} {self.tried} "
                 f"{'was' if self.tried == 1 else 'were'} tried."]
         if number > self.among:
             rows.append("None of them gives a solid that is kept: here also ends of lines were moved, or fillets squared off to their centres.")
@@ -75,6 +87,8 @@ class Readings(NamedTuple):
             rows.append("It keeps no solid; the sheet itself, in place of this drawing of it, is read in the others too.")
         elif self.kept:
             rows.append("No other solid is kept in any of them.")
+        if self.elsewhere:
+            rows.append(f"They are kept in {len(self.kept)} readings: pages show those of the first one, reading {number}.")
         return rows
 
 
@@ -97,24 +111,22 @@ def of_drawing(drawn: sheet.Drawn, given: Given, ask: Asker) -> Readings:
 
 
 def readings(drawn: sheet.Drawn, ask: Asker, arguments: argparse.Namespace) -> Readings:
-    """Tries the readings of a sheet, the likeliest first: the plain ones, and the others where no solid of these is kept."""
-    result, its = Readings([], None, 0, 1), itertools.chain([drawn], drawn.others)
-    empty: set[str] = set()
-    until = time.monotonic() + arguments.reading_seconds
-    for one in its:
+    """Tries the readings of a sheet, the likeliest first: the plain ones, and the others where no solid of these is kept; of one whose oblique
+    edges may be squared to several corners each of these."""
+    result, empty, until = Readings([], None, 0, 1), set[str](), time.monotonic() + arguments.reading_seconds
+    for group in drawn.others:
         if result.tried and time.monotonic() > until:
             result = result._replace(seconds=arguments.reading_seconds)
             break
-        Progress.show(f"reading {result.tried + 1} of {result.among} is tried")
-        if isinstance(one, Refused) or lines_in(one) in empty:
-            continue
-        if result.kept and not one.is_plain:
+        its = [one for one in group.its if isinstance(one, sheet.Drawn)]
+        if result.kept and not all(one.is_plain for one in its):
             result = result._replace(tried=result.among)
             break
-        found = answered(one, ask)
-        result = with_one(result, found) if found else result
-        if found and not found.outcome.listed:
-            empty.add(lines_in(one))
+        Progress.show(f"reading {result.tried + 1} of {result.among} is tried")
+        for one in its:
+            result = tried_too(result, one, ask, empty)
+        if result.first:
+            result = result._replace(tried=min(group.last, result.among))
         if result.kept and not arguments.all_readings:
             break
     else:
@@ -123,11 +135,21 @@ def readings(drawn: sheet.Drawn, ask: Asker, arguments: argparse.Namespace) -> R
     return result if arguments.reading is None else result._replace(tried=1)
 
 
+def tried_too(result: Readings, one: sheet.Drawn, ask: Asker, empty: set[str]) -> Readings:
+    """What came of the readings, and of one more; unless it draws what is known to have no solid."""
+    found = answered(one, ask) if lines_in(one) not in empty else None
+    if found and not found.outcome.listed:
+        empty.add(lines_in(one))
+    return with_one(result, found) if found else result
+
+
 def with_one(result: Readings, found: Answered) -> Readings:
-    """What came of the readings, and of one more."""
+    """What came of the readings, and of one more, of which those solids are kept that are new."""
     number, count = found.given.reading
-    kept_ones = [*result.kept, found] if found.outcome.kept and is_new(found, result.kept) else result.kept
-    return Readings(kept_ones, result.first or found, min(number, count), count)
+    others = [one for it in result.kept for one in it.outcome.kept]
+    new = [one for one in found.outcome.kept if not any(are_alike(one, other) for other in others)]
+    some = [found._replace(outcome=found.outcome._replace(kept=new))] if new else []
+    return Readings([*result.kept, *some], result.first or found, min(number, count), count)
 
 
 def lines_in(drawn: sheet.Drawn) -> str:
@@ -135,12 +157,8 @@ def lines_in(drawn: sheet.Drawn) -> str:
     return drawn.text[drawn.text.index("SECTION"):]
 
 
-def is_new(found: Answered, others: list[Answered]) -> bool:
-    """Whether a reading keeps other solids than those before it, by their volumes and what two of them don't share."""
-    return not any(are_alike(one, other) for one in found.outcome.kept for it in others for other in it.outcome.kept)
-
-
 def are_alike(one: kept.Kept, other: kept.Kept) -> bool:
+    """Whether two solids are one, by their volumes and what they don't share."""
     if abs(one.size() - other.size()) > 1e-6 * one.size():
         return False
     if one.shape is None or other.shape is None:

@@ -10,10 +10,10 @@ from typing import NamedTuple
 from . import answering, documents, faults, files, program, sheet, trials
 from .answering import Readings
 from .answers import Answer, answer_of, turned_back
-from .drawing import Origin, decimals_of, entries_of, lines_within, missing_in, origin_of, passed_over, views_of
+from .drawing import Origin, decimals_of, entries_of, lines_of, lines_within, missing_in, origin_of, passed_over, views_of
 from .given import given_in
 from .kept import Kept
-from .messages import Refused, Usage
+from .messages import Refused, Usage, option
 from .pairs import TwoReadings
 from .panels import Sheet, sheet_of
 from .paper import Paper
@@ -148,7 +148,7 @@ def ask(path: str | None, arguments: argparse.Namespace, tell: Tell, command: tu
     is_sheet = not arguments.as_is and (is_said_of_sheet(arguments) or not is_plain(lines))
     given = given_in(lines)
     if given and (is_sheet or arguments.as_is):
-        tell(f"warning: the drawing has its rounds squared off, and is taken as {'it is' if arguments.as_is else 'a sheet'}: what is told is of "
+        tell(f"warning: the drawing has its {given.kinds} squared off, and is taken as {'it is' if arguments.as_is else 'a sheet'}: what is told is of "
              "squares")
         given = None
     if is_sheet and (asked := of_readable_sheet(path, lines, arguments, tell, command)) is not None:
@@ -261,6 +261,17 @@ def angle_of(path: str | None, arguments: argparse.Namespace, refusal: TwoReadin
     raise Refused(f"{refusal}\n  recon lists {told}")
 
 
+def is_taken(path: str, arguments: argparse.Namespace) -> bool:
+    """Whether the program takes a file as it is, as the least search tells."""
+    lines = [] if documents.is_document(path) else lines_of(path)
+    if not any(views_of(lines).values()):
+        return False
+    decimals = decimals_of(lines) if arguments.decimals is None else arguments.decimals
+    words = ["solve", *views_words(lines), *decimals_words(("solve",), decimals), "--nodes", 1, "--solids", 1]
+    run = program.run(program.find(arguments.program), words, pathlib.Path(path).read_bytes(), arguments.seconds)
+    return not faults.name_of(run.text.strip())
+
+
 def of_sheet(path: str | None, arguments: argparse.Namespace, tell: Tell, command: tuple[object, ...]) -> Asked:
     """Asks the program about what a sheet is drawn as; of a sheet with rounds about the first reading of which a solid is kept."""
     try:
@@ -271,9 +282,9 @@ def of_sheet(path: str | None, arguments: argparse.Namespace, tell: Tell, comman
     except (Usage, Unreadable):
         raise
     except Refused as refusal:
-        if documents.is_document(path):
+        if path is None or not is_taken(path, arguments):
             raise
-        raise Refused(f"{refusal}\n  (--as-is has recon read the file as it is)") from None
+        raise Refused(f"{refusal}\n  ({option('as-is')} has recon read the file as it is)") from None
     if rounds and (chosen := rounds.likeliest):
         drawn = chosen.drawn
     for note in drawn.notes:

@@ -119,7 +119,7 @@ def row_of(path: str, arguments: argparse.Namespace) -> dict[str, Any]:
         message, solids = message_of(asked, [str(note) for note in notes if note.kind == "warning"])
         given = given_in(asked.lines)
         record = records.record(asked, named, notes, records.LISTED, with_faces=False)
-        return {"status": asked.run.status, "solids": solids, "rounds": len(given.rounds) if given else 0, "message": message, "record": record}
+        return {"status": asked.run.status, "solids": solids, "rounds": len(given.squared) if given else 0, "message": message, "record": record}
     except program.Failed as failure:
         return {"status": FAILED, "message": str(failure), "record": records.without_answer(named, failure, notes)}
     except Refused as refusal:

@@ -10,9 +10,10 @@ from .answers import Solid
 from .cad import FreeCAD, Part, load
 from .cones import Fitted, volume_by_pi
 from .drawing import Place
+from .given import Squared
 from .messages import Refused
 from .rounded import Drawn, Layer, Strip, by_rounds, spot, volume_of
-from .rounds import Quarter
+from .rounds import Quarter, Slant
 from .solids import shape_of
 
 # How far, of the whole, FreeCAD's volume may be from the formula's.
@@ -43,27 +44,36 @@ def prism(view: str, sides: Sequence["Part.Shape"], depth: float) -> "Part.Shape
     return Part.Face(Part.Wire(list(sides))).extrude(vector(view, (0, 0), depth))
 
 
-def whole_of(it: Drawn, layer: Layer, unit: int) -> Whole:
-    view, radius, foot = it.one.view, it.one.radius, layer.low / unit
-    low, high = ([round((at + way * radius) * unit) / unit for at in it.one.centre] for way in (-1, 1))
+def whole_of(one: Squared, layer: Layer, unit: int) -> Whole:
+    view, radius, foot = one.view, one.radius, layer.low / unit
+    low, high = ([round((at + way * radius) * unit) / unit for at in one.centre] for way in (-1, 1))
     places = (low[0], low[1]), (high[0], low[1]), (high[0], high[1]), (low[0], high[1])
     corners = [vector(view, place, foot) for place in places]
     depth = (layer.high - layer.low) / unit
     square = prism(view, list(map(Part.makeLine, corners, corners[1:] + corners[:1])), depth)
-    return Whole(radius, layer.is_full, square, Part.makeCylinder(radius, depth, vector(view, it.one.centre, foot), vector(view, (0, 0), 1)))
+    return Whole(radius, layer.is_full, square, Part.makeCylinder(radius, depth, vector(view, one.centre, foot), vector(view, (0, 0), 1)))
 
 
-def corner_of(view: str, quarter: Quarter, layer: Layer, unit: int) -> "Part.Shape":
-    """What lies between a quarter round and its sharp corner in a layer, without where something goes on across the corner's sides."""
+def corner_of(view: str, quarter: Quarter | Slant, layer: Layer, unit: int) -> "Part.Shape":
+    """What lies between a quarter round, or a chamfer, and its sharp corner in a layer, without where something goes on across the corner's
+    sides."""
+    quarter = in_units(quarter, unit) if isinstance(quarter, Slant) else quarter
     first, corner, last, middle = (vector(view, place, layer.low / unit) for place in (quarter.ends[0], quarter.corner, quarter.ends[1], quarter.along(0.5)))
-    sides = [Part.makeLine(first, corner), Part.makeLine(corner, last), Part.Arc(last, middle, first).toShape()]
+    across = Part.makeLine(last, first) if isinstance(quarter, Slant) else Part.Arc(last, middle, first).toShape()
+    sides = [Part.makeLine(first, corner), Part.makeLine(corner, last), across]
     tool = prism(view, sides, (layer.high - layer.low) / unit)
     for strip in layer.strips:
         tool = tool.cut(box_of(view, quarter, layer, strip, unit))
     return tool
 
 
-def box_of(view: str, quarter: Quarter, layer: Layer, strip: Strip, unit: int) -> "Part.Shape":
+def in_units(slant: Slant, unit: int) -> Slant:
+    """A chamfer whose ends are where the solid's corners are."""
+    (a, b), (c, d) = ((round(x * unit) / unit, round(y * unit) / unit) for x, y in (slant.centre, slant.corner))
+    return Slant((a, b), (c, d))
+
+
+def box_of(view: str, quarter: Quarter | Slant, layer: Layer, strip: Strip, unit: int) -> "Part.Shape":
     """Where something goes on across a corner's side: it is kept as far as the round."""
     x0, y0, x1, y1 = quarter.box
     low, high = [x0, y0], [x1, y1]
@@ -107,8 +117,9 @@ def tools_of(found: Sequence[Drawn], unit: int, by_formula: bool) -> tuple[list[
     wholes: list[Whole] = []
     corners: list[Tool] = []
     for group in by_rounds(found):
-        if len(group) == 4 and all(it.layers == group[0].layers for it in group) and by_formula:
-            wholes += [whole_of(group[0], layer, unit) for layer in group[0].layers]
+        one = group[0].one
+        if isinstance(one, Squared) and one.is_circle and all(it.layers == group[0].layers for it in group) and by_formula:
+            wholes += [whole_of(one, layer, unit) for layer in group[0].layers]
         else:
             corners += [Tool(corner_of(it.one.view, it.quarter, run, unit), not run.is_full) for it in group for run in runs_of(it.layers)]
     return wholes, [it for it in corners if it.shape.Solids]

@@ -90,7 +90,8 @@ def run(arguments: argparse.Namespace) -> int:
     if judged.status != program.WHOLE or not yes:
         raise Refused(f"recon says neither yes nor what is wrong: {head[:80]}")
     count, views = int(yes[1]), "these two views" if asked.missing else "these views"
-    views += ", its rounds squared off" if given_in(asked.lines) else ""
+    given = given_in(asked.lines)
+    views += f", its {given.kinds} squared off" if given else ""
     write_result({0: f"Yes: no solid has {views}.\n", 1: f"Yes: one solid has {views}, and no other.\n"}.get(
         count, f"Yes: {many(count, 'solid')} have {views}, and no others.\n"), None)
     return program.WHOLE

@@ -54,7 +54,7 @@ def with_further(asked: asking.Asked) -> dict[str, list[Stroke]]:
 def run(arguments: argparse.Namespace) -> int:
     asked = redrawn(arguments, lambda text: say(f"draft clean: {text}"))
     if asked.rounds:
-        raise Refused("a sheet with rounds isn't drawn anew: `draft sheet` writes it squared off")
+        raise Refused("a sheet with rounds or chamfers isn't drawn anew: `draft sheet` writes it squared off")
     strokes = with_further(asked)
     say(f"draft clean: {many(sum(map(len, strokes.values())), 'line')}, read with --decimals {asked.decimals}")
     write_result(written(strokes, asked.decimals, asked.origin), arguments.output)

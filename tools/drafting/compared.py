@@ -8,12 +8,13 @@ from typing import NamedTuple
 from .cad import FreeCAD, Part, TechDraw
 from .curves import angle_of
 from .drawing import Place
-from .given import NOWHERE, Given, Stretch, times
+from .given import NOWHERE, Given, Squared, Stretch, times
 from .panels import FRAMES
 from .reading import Arc, Edge
 from .rounded import Drawn
 from .rounds import is_level, is_straight
 from .shapes import DIRECTIONS, VISIBLE
+from .straight import along, off
 
 # Of TechDraw's ten groups of edges, of which the first five are visible: sharp edges and outlines; and smooth ones and seams.
 SHARP, SMOOTH = (0, 3, 5, 8), (1, 2, 6, 7)
@@ -88,13 +89,8 @@ def ends_of(places: Sequence[Place]) -> tuple[Place, Place] | None:
     (x0, x1), (y0, y1) = ((min(its), max(its)) for its in zip(*places))
     if min(x1 - x0, y1 - y0) < 1e-6:
         return (x0, y0), (x1, y1)
-    return (places[0], places[-1]) if all(off(it, (places[0], places[-1])) < 1e-6 for it in places) else None
-
-
-def off(place: Place, line: tuple[Place, Place]) -> float:
-    """How far a place lies from a line through two others."""
-    (x, y), (right, up) = line
-    return abs((place[0] - x) * (up - y) - (place[1] - y) * (right - x)) / math.dist(*line)
+    is_closed = math.dist(places[0], places[-1]) < 1e-6
+    return None if is_closed or any(off(it, (places[0], places[-1])) > 1e-6 for it in places) else (places[0], places[-1])
 
 
 # ---- the comparison
@@ -130,11 +126,6 @@ def rows_of(lines: Sequence[Edge], arcs: Sequence[Arc], slants: Sequence[Edge] =
             low, high = (math.radians(at - turn) * arc.radius for at in (arc.start, arc.start + arc.sweep))
             rows[key].append((max(low, 0.0), min(high, 2 * math.pi * arc.radius), arc.hidden))
     return rows
-
-
-def along(place: Place, line: Edge) -> float:
-    """How far along a line a place lies, from its start on."""
-    return sum((b - a) * (it - a) for a, b, it in zip(line.start, line.end, place)) / math.dist(line.start, line.end)
 
 
 def joined_near(given: Rows, made: Rows) -> Rows:
@@ -223,7 +214,7 @@ def unexplained(given: Given, found: Sequence[Drawn], unit: int) -> Iterator[str
         covered = []
         for it in found:
             own = FRAMES[it.one.view]
-            if it.one.view != stretch.view and own.sight == along and axis in (own.right, own.up):
+            if isinstance(it.one, Squared) and it.one.view != stretch.view and own.sight == along and axis in (own.right, own.up):
                 centre = it.one.centre[0 if axis == own.right else 1]
                 is_back = frame.right_back if stretch.is_upright else frame.up_back
                 place = given.extent(axis) - stretch.at if is_back else stretch.at

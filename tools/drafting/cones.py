@@ -20,7 +20,7 @@ from typing import NamedTuple
 
 from .answers import Solid
 from .drawing import VIEWS, Place
-from .given import Cone, Given
+from .given import Cone, Given, Squared
 from .panels import FRAMES
 from .reading import Box, Edge
 from .rounded import Drawn, is_full_in, spot
@@ -211,7 +211,8 @@ def fitted(cone: Cone, found: Sequence[Drawn], cuts: list[list[int]], is_full: F
 
 def goes_on(cone: Cone, radius: float, found: Sequence[Drawn], at: float, way: int, body: bool) -> bool:
     """Whether all quarters of a circle have a layer that goes on from a depth."""
-    its = [it for it in found if it.one.view == cone.view and math.dist(it.one.centre, cone.centre) < 1e-6 and abs(it.one.radius - radius) < 1e-6]
+    its = [it for it in found if isinstance(it.one, Squared) and it.one.view == cone.view and math.dist(it.one.centre, cone.centre) < 1e-6
+           and abs(it.one.radius - radius) < 1e-6]
     return len(its) == 4 and all(any(layer.is_full == body and (layer.low if way > 0 else layer.high) == at for layer in it.layers) for it in its)
 
 

@@ -32,7 +32,7 @@ from .shown import Units
 NAME = "follow"
 HELP = "ask recon about a drawing, and tell as it goes; `draft serve` runs it"
 
-SQUARED = "changed: solids are shown with their rounds squared off: FreeCAD isn't there, by which they are rounded back"
+SQUARED = "changed: solids are shown squared off: FreeCAD isn't there, by which they are rounded back"
 Event = dict[str, Any]
 Events = Iterator[Event]
 
@@ -94,7 +94,7 @@ def rounds_events(asked: asking.Asked) -> Events:
     from .meshes import meshes
     yield {"kind": "rounded", "solids": list(meshes(shapes[:MOST_ROUNDED], first.given, asked))}
     if len(shapes) > MOST_ROUNDED:
-        yield said(f"changed: {many(MOST_ROUNDED, 'solid')} are shown round, and the others with their rounds squared off")
+        yield said(f"changed: {many(MOST_ROUNDED, 'solid')} are shown round, and the others squared off")
 
 
 def end_event(how: str, html: str, text: str = "") -> Event:

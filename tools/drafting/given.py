@@ -7,6 +7,7 @@ lines and arcs of each view, with which they are compared. All are from a view's
     draft line FRONT dashed 34 0 34 8
     draft smooth FRONT upright solid 8 0 8  left out as a tangent edge or a seam: at, from, to
     draft cone TOP 40 25 3 4 0 2.2 sure     a centre, from a radius at a depth on to another, and whether nothing else can stand for it
+    draft chamfer FRONT 8 12 20 30          the sharp corner of an oblique edge, and the one across from that
     draft doubt WORDS
 """
 import re
@@ -16,7 +17,7 @@ from typing import NamedTuple
 from .drawing import FURTHER, VIEWS, Place, pairs, pairs_of
 from .messages import Refused
 from .reading import Arc, Edge, Source
-from .rounds import Quarter, Round
+from .rounds import Quarter, Round, Slant
 
 NOWHERE = Source("drawn", "", "")
 MOST = 200_000
@@ -24,7 +25,7 @@ VIEW = "|".join((*VIEWS, *FURTHER))
 FORMS = {
     "round": rf"({VIEW}) # # # ([1-4]{{1,4}})( inner)?( cut)?", "arc": rf"({VIEW}) (solid|dashed) # # # # #",
     "line": rf"({VIEW}) (solid|dashed) # # # #", "smooth": rf"({VIEW}) (upright|level) (solid|dashed) # # #",
-    "cone": rf"({VIEW}) # # # # # #( sure)?", "reading": r"([1-9]\d{0,5}) of ([1-9]\d{0,5})", "doubt": "(.*)",
+    "cone": rf"({VIEW}) # # # # # #( sure)?", "reading": r"([1-9]\d{0,5}) of ([1-9]\d{0,5})", "chamfer": rf"({VIEW}) # # # #", "doubt": "(.*)",
 }
 
 
@@ -44,6 +45,28 @@ class Squared(NamedTuple):
     def __str__(self) -> str:
         what = "circle" if self.is_circle else "round"
         return f"{what} of {self.view} at {self.centre[0]:.6g}, {self.centre[1]:.6g}, of radius {self.radius:.6g}"
+
+
+class Chamfer(NamedTuple):
+    """An oblique edge that was squared off (`chamfers.py`): its view, and its corner."""
+
+    view: str
+    slant: Slant
+
+    @property
+    def quarters(self) -> tuple[Slant]:
+        return self.slant,
+
+    @property
+    def is_circle(self) -> bool:
+        return False
+
+    @property
+    def is_cut(self) -> bool:
+        return False
+
+    def __str__(self) -> str:
+        return "oblique edge of {} from {:.6g}, {:.6g} to {:.6g}, {:.6g}".format(self.view, *self.slant.ends[0], *self.slant.ends[1])
 
 
 class Stretch(NamedTuple):
@@ -83,7 +106,8 @@ class Cone(NamedTuple):
 
 class Given(NamedTuple):
     """What a drawing's comments say: the rounds, the lines and arcs by their views, what was left out as smooth, where squaring off may be
-    wrong, and which reading of the sheet it is, of how many: one of a greater number changes more than to leave lines out."""
+    wrong, the cones, and which reading of the sheet it is, of how many: one of a greater number changes more than to leave lines out; and
+    the chamfers."""
 
     rounds: list[Squared]
     lines: dict[str, list[Edge]]
@@ -92,6 +116,23 @@ class Given(NamedTuple):
     doubts: list[str]
     cones: list[Cone]
     reading: tuple[int, int] = (1, 1)
+    chamfers: tuple[Chamfer, ...] = ()
+
+    @property
+    def squared(self) -> list[Squared | Chamfer]:
+        """All that was squared off."""
+        return [*self.rounds, *self.chamfers]
+
+    @property
+    def kinds(self) -> str:
+        """What was squared off, in words."""
+        return " and ".join([*(["rounds"] if self.rounds or not self.chamfers else []), *(["chamfers"] if self.chamfers else [])])
+
+    @property
+    def least(self) -> float:
+        """The least radius, or side of a chamfer's corner."""
+        sides = [abs(a - b) for it in self.chamfers for a, b in zip(it.slant.centre, it.slant.corner)]
+        return min([*(it.radius for it in self.rounds), *sides])
 
     def extent(self, axis: int) -> float:
         """How far the part reaches along an axis of space."""
@@ -114,6 +155,7 @@ def times(given: Given, factor: int) -> Given:
         arcs={view: [it._replace(centre=place(it.centre), radius=it.radius * factor) for it in its] for view, its in given.arcs.items()},
         smooth=[it._replace(at=it.at * factor, low=it.low * factor, high=it.high * factor) for it in given.smooth],
         cones=[it.times(factor) for it in given.cones],
+        chamfers=tuple(it._replace(slant=Slant(place(it.slant.centre), place(it.slant.corner))) for it in given.chamfers),
     )
 
 
@@ -153,6 +195,7 @@ def rows_of(given: Given) -> Iterator[str]:
         yield f"smooth {it.view} {way} {styled(it.hidden)} {plain(it.at, it.low, it.high)}"
     for cone in given.cones:
         yield f"cone {cone.view} {plain(*cone.centre, *cone[2:6])}{' sure' if cone.is_sure else ''}"
+    yield from (f"chamfer {it.view} {plain(*it.slant.corner, *it.slant.centre)}" for it in given.chamfers)
     yield from (f"doubt {text}" for text in given.doubts)
 
 
@@ -200,6 +243,13 @@ def take_cone(given: Given, view: str, *told: str) -> None:
     given.cones.append(Cone(view, (x, y), radius, neck, end_radius, end, bool(told[6])))
 
 
+def chamfer_in(view: str, *told: str) -> Chamfer:
+    a, b, c, d = map(float, told)
+    if a == c or b == d:
+        raise Refused("a chamfer without a width or a height")
+    return Chamfer(view, Slant((c, d), (a, b)))
+
+
 def take_doubt(given: Given, text: str) -> None:
     given.doubts.append(text)
 
@@ -223,11 +273,13 @@ def given_in(lines: list[str]) -> Given | None:
         count += 1
         told = PATTERNS[word].fullmatch(rest)
         if told is None or count > MOST:
-            raise Refused(f"line {number + 1:,} isn't what `draft sheet` writes of a sheet with rounds: {value[:60]}")
+            raise Refused(f"line {number + 1:,} isn't what `draft sheet` writes of a squared-off sheet: {value[:60]}")
         if word == "reading":
             given = given._replace(reading=(int(told[1]), int(told[2])))
+        elif word == "chamfer":
+            given = given._replace(chamfers=(*given.chamfers, chamfer_in(*told.groups())))
         else:
             TAKES[word](given, *told.groups())
-    return given if given.rounds else None
+    return given if given.squared else None
 
 

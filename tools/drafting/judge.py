@@ -175,8 +175,8 @@ def run(arguments: argparse.Namespace) -> int:
     else:
         asked = asking.ask(arguments.drawing, arguments, lambda text: say(f"draft judge: {text}"))
         answer, data, lines, decimals = answer_of(asked.run.text), asked.data, asked.lines, asked.decimals
-    if given_in(lines):
-        say("draft judge: what is judged are the solids of the drawing with its rounds squared off")
+    if given := given_in(lines):
+        say(f"draft judge: what is judged are the solids of the drawing with its {given.kinds} squared off")
     if FAULT.fullmatch(answer.head):
         raise Refused(f"a fault isn't judged: {answer.head}")
     views = views_of(lines)

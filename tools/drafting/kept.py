@@ -42,7 +42,7 @@ class Rounds(NamedTuple):
 
 class Outcome(NamedTuple):
     """What came of a squared drawing's solids: how many it has, how many can't be rounded back, why others aren't kept, and those that
-    are; whether they were compared with the sheet; and how many weren't looked at."""
+    are; whether they were compared with the sheet; how many weren't looked at; and what was squared off, in words."""
 
     listed: int
     lost: int
@@ -50,10 +50,11 @@ class Outcome(NamedTuple):
     kept: list[Kept]
     is_compared: bool
     unseen: int = 0
+    kinds: str = "rounds"
 
     def told(self) -> list[str]:
         """In words, beside the solids that are kept."""
-        squared = f"The drawing with its rounds squared off has {many(self.listed, 'solid')}"
+        squared = f"The drawing with its {self.kinds} squared off has {many(self.listed, 'solid')}"
         left = [f"{self.lost} can't be rounded back"] if self.lost else []
         left += [f"{len(self.others)} {'looks' if len(self.others) == 1 else 'look'} otherwise than the sheet once rounded back"] if self.others else []
         rows = [squared + (f", of which {' and '.join(left)}." if left else ".")]
@@ -76,7 +77,7 @@ def tools() -> tuple[Any, Any] | None:
 def outcome(answer: Answer, given: Given, decimals: int) -> Outcome:
     """What comes of an answer's solids."""
     unit, with_shapes = 10**decimals, tools()
-    result = Outcome(answer.listed, 0, [], [], with_shapes is not None, max(0, answer.listed - MOST))
+    result = Outcome(answer.listed, 0, [], [], with_shapes is not None, max(0, answer.listed - MOST), given.kinds)
     for number, solid in enumerate(answer.solids[:MOST], 1):
         Progress.show(f"solid {number:,} of {len(answer.solids):,} is rounded back")
         some, why = rounded_back(number, solid, given, unit, with_shapes)

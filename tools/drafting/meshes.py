@@ -18,7 +18,7 @@ PARTS = 100
 
 def fineness(given: Given) -> float:
     """How far from its face a triangle may lie, in the drawing's unit: as far as the sides of the least circle do."""
-    return min(it.radius for it in given.rounds) * (1 - math.cos(math.pi / SIDES))
+    return given.least * (1 - math.cos(math.pi / SIDES))
 
 
 def told(places: "Iterable[FreeCAD.Vector]", unit: int) -> list[float]:

@@ -7,12 +7,14 @@ part: it is the same one, turned.
 import itertools
 from collections.abc import Sequence
 
+from .advice import InTheWay
 from .groups import NEARLY_AS_LARGE, Group, has_extent, holds, title_blocks
-from .messages import Refused
+from .messages import Refused, option
 from .placing import (
     Hints, Placed, Standing, Way, by_places as three_by_places, beside, in_line, is_mirrored, numbers_told, standing, stretches_of, view_named,
     ways_of, why_no_view, with_a_side, without_told,
 )
+from .reading import Source
 from .straight import Run
 
 
@@ -20,7 +22,7 @@ class TwoReadings(Refused):
     """Two views that may be read in third or in first angle, and nothing on the sheet says which."""
 
     def __init__(self, ways: Sequence[Way], groups: Sequence[Group]) -> None:
-        rows = "".join(f"\n  --angle {reading_told(way, groups)}" for way in ways)
+        rows = "".join(f"\n  {option('angle', way.angle)}, {reading_told(way, groups)}" for way in ways)
         super().__init__(f"two views in line may be read in two ways, and which one is meant has to be said:{rows}")
         self.angles = [way.angle for way in ways]
 
@@ -30,9 +32,9 @@ def number_in(groups: Sequence[Group], group: Group) -> int:
 
 
 def reading_told(way: Way, groups: Sequence[Group]) -> str:
-    """An angle and which group is which view in it."""
+    """How the views stand, and which group is which one."""
     its = (f"{view} is group {number_in(groups, group)}, {group}" for view, group in way.views.items())
-    return f"{way.angle}, {way}: {'; '.join(its)}"
+    return f"{way}: {'; '.join(its)}"
 
 
 # ---- the ways
@@ -75,8 +77,8 @@ def refuse_third(it: Standing, views: Sequence[Group], hints: Hints) -> None:
     if others:
         numbers = [number_in(it.groups, group) for group in others]
         told = "".join(f"\n  group {number}, {group}, whose first entity is {group.first}" for number, group in zip(numbers, others))
-        raise Refused(f"beside two views stands what may be the third one and isn't read as one; where it is none, leave it out by --leave-out "
-                      f"group={numbers_told(numbers)}:{told}")
+        raise Refused(f"beside two views stands what may be the third one and isn't read as one; where it is none, leave it out by "
+                      f"{option('leave-out', 'group=' + numbers_told(numbers))}:{told}")
 
 
 def is_double(frame: Group) -> bool:
@@ -85,14 +87,18 @@ def is_double(frame: Group) -> bool:
                for upright, length in ((True, frame.height), (False, frame.width)))
 
 
+def sources_of(groups: Sequence[Group]) -> list[Source]:
+    return [run.edge.source for group in groups for run in group.runs]
+
+
 def refuse_bare_frame(it: Standing, views: Sequence[Group], hints: Hints) -> None:
     """Refuses two groups that have something round them which may be a view, with these in it as its holes: a frame is a double one, or has
     texts beside the views."""
     rounds = [group for group in it.around if has_extent(group, hints.tolerance) and all(holds(group.box, view.box, hints.tolerance) for view in views)]
     texts = [(x, y, x, y) for x, y in hints.texts if not any(holds(view.box, (x, y, x, y), 0) for view in views)]
     if len(rounds) == 1 and not is_double(rounds[0]) and not any(holds(rounds[0].box, text, 0) for text in texts):
-        raise Refused(f"two groups of lines stand within {rounds[0]}, which may be a frame round two views, or a view with these in it; a frame is "
-                      "left out by --leave-out layer= or color=")
+        raise InTheWay(f"two groups of lines stand within {rounds[0]}, which may be a frame round two views, or a view with these in it",
+                       sources_of(rounds), "; a frame is left out by", sources_of(views))
 
 
 # ---- both

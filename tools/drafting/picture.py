@@ -172,8 +172,7 @@ def rounded_picture(lines: list[str], given: Given, text: str | None) -> Iterato
     if not found.is_compared:
         raise Refused(LACKING)
     asked = asking.Asked(b"", lines, answer.decimals, origin_of(lines), program.Run(0, text, 0.0))
-    least = min(it.radius for it in given.rounds)
-    shapes = [(seen.Seen(one.shape, TURNED, RAISED, least), asked.rounded_volume(one)) for one in found.kept[:MOST_SOLIDS]]
+    shapes = [(seen.Seen(one.shape, TURNED, RAISED, given.least), asked.rounded_volume(one)) for one in found.kept[:MOST_SOLIDS]]
     note = f"{len(found.kept)} solids, of which {MOST_SOLIDS} are shown" if len(found.kept) > MOST_SOLIDS else "" if found.kept else "no solid is kept"
     return whole_picture(views, Beside(len(shapes), functools.partial(rounded_drawn, shapes), note), None, curves)
 

@@ -6,11 +6,13 @@ from collections import Counter, defaultdict
 from collections.abc import Callable, Container, Iterable, Iterator, Mapping, Sequence
 from typing import NamedTuple
 
+from .advice import InTheWay
 from .drawing import FURTHER, VIEWS
 from .groups import MOST_GROUPS, Group, frames, group_of, has_extent, holds, merged, pieces_of, title_blocks, united
-from .messages import Refused, many
+from .messages import Refused, many, option
 from .panels import FRAMES
 from .reading import Box, Edge, Source, Unread
+from .sections import Why, together
 from .straight import Run
 
 # The words that name a view in the name of a layer or block.
@@ -21,6 +23,11 @@ NAMES = {
         ("REAR", "REAR BACK REARVIEW BACKVIEW RUECKANSICHT"), ("BOTTOM", "BOTTOM BOTTOMVIEW UNTERANSICHT"),
     ) for word in words.split()
 }
+# What comes before the option by which something is left out that makes a group a section.
+NO_SECTION = "; what makes no section is left out by"
+# What is said of groups beside the views.
+ONE = "stands a group that is no view of the same part where it stands, and whether it is one of another isn't told; it is left out by"
+SEVERAL = "stand groups that are no views of the same part where they stand, and whether they are of another isn't told; they are left out by"
 # How many groups or curves a refusal names.
 MOST_NAMED = 12
 # How many ways to part a sheet by cuts are looked at; else those by one cut upwards and one across.
@@ -39,7 +46,7 @@ class Placed(NamedTuple):
 
 
 # What tells which of all groups are sections, by their numbers from 0 on, and why; it knows which ones the user leaves out.
-TellSections = Callable[[Sequence[Group], Sequence[Group]], dict[int, str]]
+TellSections = Callable[[Sequence[Group], Sequence[Group]], dict[int, Why]]
 
 
 class Hints(NamedTuple):
@@ -146,8 +153,7 @@ def by_names(views: dict[str, list[Run]], others: list[Run], hints: Hints) -> Pl
     every = list(groups.values())
     for number, why in hints.sections(every, every).items():
         view, group = list(groups.items())[number]
-        raise Refused(f"{view}, {group}, is a section, since {why}: a section is no view. Draw {view} uncut too; what makes no section is left "
-                      "out by --leave-out layer= or color=")
+        raise InTheWay(f"{view}, {group}, is a section, since {why}: a section is no view. Draw {view} uncut too", why.sources, NO_SECTION)
     by_what = "the names of " + ("files" if every[0].first.file else "layers or blocks")
     by_what = "the directions in which they look" if every[0].first.is_drawn else by_what
     words = [f"the views by {by_what}: {', '.join(sorted(named))}{without_told(groups)}"]
@@ -338,7 +344,7 @@ class Standing(NamedTuple):
     groups: list[Group]
     kept: list[Group]
     chosen: list[Group]
-    cut: dict[int, str]
+    cut: dict[int, Why]
     around: list[Group]
     left: list[str]
 
@@ -386,15 +392,15 @@ def placed_by(runs: Sequence[Run], hints: Hints) -> Placed:
     return Placed(with_a_side(way.views), is_mirrored(way.views), found, left)
 
 
-def refuse_in_place(groups: Sequence[Group], kept: Sequence[Group], cut: dict[int, str], hints: Hints) -> None:
+def refuse_in_place(groups: Sequence[Group], kept: Sequence[Group], cut: dict[int, Why], hints: Hints) -> None:
     """Refuses sections that stand in the places of views, with the views that are needed."""
     for way in ways_of(kept, hints) if cut else ():
         places = {view: number for view, group in way.views.items() for number in cut if groups[number] is group}
         if places:
             stand = "; ".join(f"in the place of {view} stands group {number + 1}, {groups[number]}, which is a section, since {cut[number]}"
                               for view, number in places.items())
-            raise Refused(f"{stand}: a section is no view. Draw {' and '.join(places)} uncut too; what makes no section is left out by "
-                          "--leave-out layer= or color=")
+            sources = together([cut[number] for number in places.values()]).sources
+            raise InTheWay(f"{stand}: a section is no view. Draw {' and '.join(places)} uncut too", sources, NO_SECTION)
 
 
 def beside(groups: Sequence[Group], others: Sequence[Group], blocks: Sequence[Group], hints: Hints) -> Iterator[str]:
@@ -408,13 +414,10 @@ def beside(groups: Sequence[Group], others: Sequence[Group], blocks: Sequence[Gr
         else:
             unknown.append(next(at for at, it in enumerate(groups, 1) if it is group))
     if unknown:
-        stand = "stands" if len(unknown) == 1 else "stand"
         told = [f"group {at}, {groups[at - 1]}, whose first line is {groups[at - 1].first}" for at in unknown[:MOST_NAMED]]
         told += [f"and {len(unknown) - MOST_NAMED} more"] if len(unknown) > MOST_NAMED else []
-        raise Refused(
-            f"beside the views {stand} what is no view of the same part in its place, and whether it may be left out isn't told; leave it out by "
-            f"--leave-out group={numbers_told(unknown)}:" + "".join(f"\n  {it}" for it in told)
-        )
+        raise Refused(f"beside the views {ONE if len(unknown) == 1 else SEVERAL} {option('leave-out', 'group=' + numbers_told(unknown))}:"
+                      + "".join(f"\n  {it}" for it in told))
 
 
 def numbers_told(numbers: Sequence[int]) -> str:
@@ -444,8 +447,18 @@ def no_way(groups: Sequence[Group], chosen: Sequence[Group], ways: Sequence[Way]
     text = f"{count} to take three of these as FRONT, TOP and SIDE{angle}"
     near = nearly(chosen, hints) if not ways else ""
     if len({way.angle for way in ways}) == 2 and all(way.views["FRONT"] is ways[0].views["FRONT"] for way in ways):
-        near = "TOP may stand above FRONT (third angle) or below it (first angle): say which by --angle"
+        near = f"TOP may stand above FRONT (third angle) or below it (first angle): say which by {option('angle')}"
+    elif len(ways) > 1 and (others := others_of(groups, ways)):
+        near = f"for one of several parts leave out what isn't of it, by {' or '.join(option('leave-out', f'group={its}') for its in others)}"
     return "\n  ".join([text + (f": {near}" if near else ""), *seen, *(["and more"] if len(groups) > MOST_NAMED else [])])
+
+
+def others_of(groups: Sequence[Group], ways: Sequence[Way]) -> list[str]:
+    """The numbers of the groups that aren't the main views of each way, where no two ways have one of these both."""
+    its = [[at for at, group in enumerate(groups, 1) if any(group is way.views.get(view, way.views.get("LEFT")) for view in VIEWS)] for way in ways]
+    if len(set(itertools.chain(*its))) < len(VIEWS) * len(ways):
+        return []
+    return [numbers_told([at for at in range(1, len(groups) + 1) if at not in one]) for one in its]
 
 
 def nearly(groups: Sequence[Group], hints: Hints) -> str:

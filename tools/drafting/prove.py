@@ -35,7 +35,7 @@ def whole_drawing(arguments: argparse.Namespace, tell: asking.Tell) -> tuple[ask
         tell(f"warning: logs are of the {'two' if asked.missing else 'three'} main views: what {' and '.join(further)} would rule out isn't asked")
     given = given_in(asked.lines)
     if given:
-        tell("changed: the log is of the drawing with its rounds squared off, whose solids are sharp there")
+        tell(f"changed: the log is of the drawing with its {given.kinds} squared off, whose solids are sharp there")
     if not asked.decimals:
         return asked, up_to_end(asked.data)
     tell(f"changed: lengths multiplied by {10**asked.decimals:,}, since logs are of drawings in whole units")

@@ -38,7 +38,7 @@ class Unreadable(Refused):
 
 class Source(NamedTuple):
     """Which entity something is of: its kind, its layer, its handle, and the block that it is in; and where each view has a file of its
-    own, that file and its view. What FreeCAD draws of a page is of a view and of no file, and its layer is that view's label."""
+    own, that file and its view; and how it looks. What FreeCAD draws of a page is of a view and of no file, and its layer is that view's label."""
 
     kind: str
     layer: str
@@ -46,6 +46,7 @@ class Source(NamedTuple):
     block: str = ""
     file: str = ""
     view: str = ""
+    look: Look | None = None
 
     @property
     def is_drawn(self) -> bool:
@@ -238,6 +239,11 @@ def line_of_file(path: str, handle: str) -> str:
     return f", line {found:,} of {pathlib.Path(path).name}" if found else ""
 
 
+def where(source: Source, path: str | None) -> str:
+    """An entity, and where it stands in its file."""
+    return f"{source}{line_of_file(source.file or str(path), source.handle)}"
+
+
 # ---- its entities
 
 class Reader:
@@ -313,7 +319,7 @@ class Reader:
 
     def source(self, entity: Any, kind: str, look: Look, around: Around) -> Source:
         origin = entity.dxf.handle or getattr(entity.origin_of_copy, "dxf", entity.dxf).handle
-        return Source(kind, look.layer, str(origin or around.handle or ""), around.block)
+        return Source(kind, look.layer, str(origin or around.handle or ""), around.block, look=look)
 
     # -- blocks
 

@@ -189,7 +189,7 @@ def rounds_record(asked: Asked) -> Record | None:
     told: Record = {"readings": {"tried": asked.rounds.tried, "among": asked.rounds.among}}
     if first:
         told |= {
-            "squared_off": len(first.given.rounds), "listed": first.outcome.listed, "not_rounded_back": first.outcome.lost,
+            "squared_off": len(first.given.squared), "listed": first.outcome.listed, "not_rounded_back": first.outcome.lost,
             "look_otherwise": first.outcome.others, "not_looked_at": first.outcome.unseen, "is_compared": first.outcome.is_compared,
             "doubts": first.given.doubts,
         }

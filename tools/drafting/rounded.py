@@ -9,10 +9,10 @@ from typing import NamedTuple
 
 from .answers import Solid
 from .cells import grid_round
-from .drawing import Place
-from .given import Given, Squared
+from .drawing import VIEWS, Place
+from .given import Chamfer, Given, Squared
 from .panels import FRAMES
-from .rounds import Quarter
+from .rounds import Quarter, Slant
 
 FULL_OUTSIDE, FULL_INSIDE = (False, True), (True, False)
 
@@ -37,10 +37,10 @@ class Layer(NamedTuple):
 
 
 class Drawn(NamedTuple):
-    """A quarter of a round, and its layers."""
+    """A quarter of a round, or a chamfer, and its layers."""
 
-    one: Squared
-    quarter: Quarter
+    one: Squared | Chamfer
+    quarter: Quarter | Slant
     layers: tuple[Layer, ...]
 
 
@@ -66,7 +66,7 @@ class Beside(NamedTuple):
     where: tuple[int, int, int] | None
 
 
-def beside(cuts: list[list[int]], view: str, quarter: Quarter, unit: int) -> Iterator[Beside]:
+def beside(cuts: list[list[int]], view: str, quarter: Quarter | Slant, unit: int) -> Iterator[Beside]:
     """Places within and beyond the two sides at a quarter's sharp corner, and at the corner itself."""
     centre, corner = ([round(at * unit) for at in place] for place in (quarter.centre, quarter.corner))
     within, beyond = ([at - way * side / 2 for at, way in zip(corner, (quarter.right, quarter.up))] for side in (1, -1))
@@ -79,7 +79,7 @@ def beside(cuts: list[list[int]], view: str, quarter: Quarter, unit: int) -> Ite
             yield Beside(ends[0], ends[1], (across, one, other))
 
 
-def strips_of(its: Sequence[tuple[int, int, int]], quarter: Quarter, unit: int) -> tuple[Strip, ...]:
+def strips_of(its: Sequence[tuple[int, int, int]], quarter: Quarter | Slant, unit: int) -> tuple[Strip, ...]:
     """What goes on across a quarter's sides: strips; and round its corner, where both sides go on, a rectangle alone."""
     corner = [round(at * unit) for at in quarter.corner]
     rows = [joined(sorted(it[1:] for it in its if it[0] == across)) for across in (0, 1)]
@@ -99,7 +99,9 @@ def joined(its: Sequence[tuple[int, ...]]) -> list[tuple[int, ...]]:
     return row
 
 
-def layer_of(at: list[tuple[tuple[bool, bool], Beside]], ends: tuple[int, int], drawn: tuple[Squared, Quarter], how: How, unit: int) -> Layer | None:
+def layer_of(
+    at: list[tuple[tuple[bool, bool], Beside]], ends: tuple[int, int], drawn: tuple[Squared | Chamfer, Quarter | Slant], how: How, unit: int
+) -> Layer | None:
     """The layer, where the quarter is drawn in it."""
     one, quarter = drawn
     styles = {pair for pair, _ in at}
@@ -131,7 +133,7 @@ def rounded(solid: Solid, given: Given, unit: int, how: How = How.STRICT) -> lis
     """The layers of all quarters; nothing where some quarter has no layer. Further views draw no other rounds than the main ones."""
     cuts, is_full = is_full_in(solid)
     found: list[Drawn] = []
-    for one in (it for it in given.rounds if it.view in ("FRONT", "TOP", "SIDE")):
+    for one in (it for it in given.squared if it.view in VIEWS):
         for quarter in one.quarters:
             places, layers = list(beside(cuts, one.view, quarter, unit)), []
             for low, high in itertools.pairwise(cuts[FRAMES[one.view].sight]):
@@ -169,10 +171,15 @@ def ways_of(solid: Solid, given: Given, unit: int) -> Iterator[tuple[list[Drawn]
 
 
 def volume_of(solid: Solid, found: Sequence[Drawn], unit: int) -> tuple[Fraction, Fraction]:
-    """The volume, a number and a number of pi: each quarter takes (1 - pi / 4) r² from a full corner, or adds it to an empty one."""
+    """The volume, a number and a number of pi: each quarter takes (1 - pi / 4) r² from a full corner, or adds it to an empty one; each
+    chamfer half of its box."""
     plain, by_pi = Fraction(solid.volume, unit**3), Fraction(0)
     for it in found:
-        square = Fraction(round(it.quarter.radius * unit), unit) ** 2
-        share = square * sum((layer.high - layer.low) * (-1 if layer.is_full else 1) for layer in it.layers) / unit
-        plain, by_pi = plain + share, by_pi - share / 4
+        depth = Fraction(sum((layer.high - layer.low) * (-1 if layer.is_full else 1) for layer in it.layers), unit)
+        if isinstance(it.quarter, Slant):
+            width, height = (Fraction(abs(round(a * unit) - round(b * unit)), unit) for a, b in zip(it.quarter.centre, it.quarter.corner))
+            plain += depth * width * height / 2
+        else:
+            share = depth * Fraction(round(it.quarter.radius * unit), unit) ** 2
+            plain, by_pi = plain + share, by_pi - share / 4
     return plain, by_pi

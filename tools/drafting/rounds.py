@@ -20,12 +20,14 @@ from collections.abc import Iterator, Sequence
 from typing import NamedTuple
 
 from . import curves
+from .advice import InTheWay
 from .drawing import Place
-from .messages import Refused
 from .reading import Arc, Box, Edge
 
 # How many times the tolerance arcs of one circle may lie apart, coordinates of lines beside them, and the ends of lines upon them.
 OF_ONE, BESIDE, UPON = 10, 20, 30
+# What comes before the option by which an entity is left out.
+THREAD = "; a thread is left out by"
 # How far from its end a round is looked at, in degrees.
 INTO = 0.02
 
@@ -69,6 +71,48 @@ class Quarter(NamedTuple):
         right, up = ((place[at] - self.centre[at]) * way for at, way in ((0, self.right), (1, self.up)))
         inside = tolerance < right <= self.radius + tolerance and tolerance < up <= self.radius + tolerance
         return inside and math.hypot(right, up) > self.radius + tolerance
+
+
+class Slant(NamedTuple):
+    """An oblique edge across a box (`chamfers.py`): the sharp corner that it cuts off, or fills, and the one across from that."""
+
+    centre: Place
+    corner: Place
+
+    @property
+    def is_inner(self) -> bool:
+        return False
+
+    @property
+    def right(self) -> int:
+        return 1 if self.corner[0] > self.centre[0] else -1
+
+    @property
+    def up(self) -> int:
+        return 1 if self.corner[1] > self.centre[1] else -1
+
+    @property
+    def ends(self) -> tuple[Place, Place]:
+        """The edge's ends, on the upright and on the level side of its box at the corner."""
+        return (self.corner[0], self.centre[1]), (self.centre[0], self.corner[1])
+
+    @property
+    def box(self) -> Box:
+        return box_of([self.corner, self.centre])
+
+    def across(self) -> "Slant":
+        """The same edge, which cuts off the other corner."""
+        return Slant(self.corner, self.centre)
+
+    def along(self, share: float) -> Place:
+        (a, b), (c, d) = self.ends
+        return a + share * (c - a), b + share * (d - b)
+
+    def is_before(self, place: Place, tolerance: float) -> bool:
+        """Whether a place lies between the edge and its sharp corner, or on the sides of the corner."""
+        right, up = ((place[at] - self.centre[at]) / (self.corner[at] - self.centre[at]) for at in (0, 1))
+        noise = tolerance / min(abs(a - b) for a, b in zip(self.centre, self.corner))
+        return max(right, up) <= 1 + noise and right + up > 1 + noise
 
 
 class Round(NamedTuple):
@@ -177,9 +221,8 @@ def check_ends(one: Round, edges: Sequence[Edge], tolerance: float) -> None:
             stop = math.degrees(math.atan2(end[1] - one.centre[1], end[0] - one.centre[0]))
             into = INTO if (at == 0) == (number % 2 == 0) else -INTO
             if one.is_drawn(stop + into) and not one.is_drawn(stop - into) and not goes_on(quarter, at, end, edges, tolerance):
-                raise Refused(f"a {one} ends at {end[0]:.6g}, {end[1]:.6g}, where no line goes on: it is a thread, a circle that is cut, or one of "
-                              "two rounds that bend to different sides without a wall between them; a thread is left out by --leave-out layer=, "
-                              "color= or linetype=")
+                raise InTheWay(f"a {one} ends at {end[0]:.6g}, {end[1]:.6g}, where no line goes on: it is a thread, a circle that is cut, or one "
+                               "of two rounds that bend to different sides without a wall between them", [one.drawn.source], THREAD)
 
 
 def goes_on(quarter: Quarter, at: int, end: Place, edges: Sequence[Edge], tolerance: float) -> bool:
@@ -226,9 +269,8 @@ def image(one: Round, angle: float, edges: Sequence[Edge], tolerance: float) -> 
     meeting = {is_level(edge) for edge in met}
     if len(meeting) != 1:
         what = "ends" if any(abs(angle - it) < 1e-9 for it in one.cuts) else "changes its style"
-        raise Refused(f"a {one} {what} at {x:.6g}, {y:.6g}, where {'two lines meet' if meeting else 'no line meets'} it: it is a thread, "
-                      "is cut by what is no level or upright wall, or meets another round in space; a thread is left out by --leave-out layer=, "
-                      "color= or linetype=")
+        raise InTheWay(f"a {one} {what} at {x:.6g}, {y:.6g}, where {'two lines meet' if meeting else 'no line meets'} it: it is a thread, "
+                       "is cut by what is no level or upright wall, or meets another round in space", [one.drawn.source], THREAD)
     right, up = (one.centre[at] + math.copysign(one.radius, it - one.centre[at]) for at, it in ((0, x), (1, y)))
     return (right, met[0].start[1]) if meeting.pop() else (met[0].start[0], up)
 

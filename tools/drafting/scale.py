@@ -14,7 +14,7 @@ from typing import Any, NamedTuple
 
 from .cutting import Word, words_of
 from .drawing import Place
-from .messages import Refused, many
+from .messages import Refused, many, option
 from .groups import Group
 from .reading import Arrow, Box, Kept, Sheet, Source
 
@@ -335,12 +335,13 @@ def refusal(dimensions: Sequence[Dimension], used: Agreed, best: Agreed, scale: 
     agree = [it for it in dimensions if it not in best.off]
     if len(agree) * 2 <= len(dimensions) or best.ratio == scale.times or not is_scale(best.ratio, agree):
         return (f"{off_told(used.off, dimensions)} another length than {spanned(len(used.off))}, so that the size of the part isn't told: words "
-                f"were written over, or lines moved without them. Draw them right, or say --as-drawn:{named(used.off, where)}")
-    taken = f"taken by --scale {scale_told(scale.times)}" if scale.is_said else "drawn"
-    way = f"say --scale {scale_told(best.ratio)}" if best.ratio != 1 else "leave out --scale"
+                f"were written over, or lines moved without them. Draw them right, or say {option('as-drawn')}:{named(used.off, where)}")
+    taken = f"taken by {option('scale', scale_told(scale.times))}" if scale.is_said else "drawn"
+    way = f"say {option('scale', scale_told(best.ratio))}" if best.ratio != 1 else f"leave out {option('scale')}"
     times = float(best.ratio / scale.times)
     text = f"{says(len(agree))} {times:.6g} times the lengths as {taken}, so that the part would come out in a wrong size"
     if best.off:
-        return (f"{text}, and {len(best.off)} say neither: {way}, with --as-drawn where these were written over:{named(best.off, where)}\n  "
-                f"beside{named(agree[:1], where)[3:]}")
-    return f"{text}: {way}, or --as-drawn where the dimensions are wrong:{named(agree[:2], where)}"
+        neither = f"{len(best.off)} {'says' if len(best.off) == 1 else 'say'} neither"
+        return (f"{text}, and {neither}: {way}, with {option('as-drawn')} where {'it was' if len(best.off) == 1 else 'these were'} written over:"
+                f"{named(best.off, where)}\n  beside {told(agree[0], where)}")
+    return f"{text}: {way}, or say {option('as-drawn')} where the dimensions are wrong:{named(agree[:2], where)}"

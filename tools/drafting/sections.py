@@ -3,6 +3,7 @@ SECTION A-A stands by it, where its layer or block says so, or where a cutting-p
 
 A section shows edges that a view doesn't, and lacks some that it has: taken for a view, no solid has it, or a wrong one.
 """
+import itertools
 import math
 import re
 from collections import Counter, defaultdict
@@ -10,9 +11,9 @@ from collections.abc import Iterator, Sequence
 from typing import NamedTuple
 
 from .cutting import Mark, Word, corners_of, distance, is_head, words_of
-from .messages import Refused
+from .messages import Refused, option
 from .groups import Group, holds
-from .reading import Box, Kept, Sheet, box_of
+from .reading import Box, Kept, Sheet, Source, box_of
 from .straight import Run
 
 # What says section, in the languages of linetypes and layers; not where a line or a plane is meant, or a cut-out.
@@ -32,6 +33,24 @@ LABEL = re.compile(rf"(?:(?P<word>{WORDS})\b[.:]?)?\s*(?:(?P<letter>{LETTER})\s*
 NEAR, NEARER, DOT = 12, 1.3, 0.05
 # How many slanted lines that end at no corner are a hatch.
 FEWEST_LINES = 3
+# With so many groups and no more each one is needed as a view.
+FEWEST_VIEWS = 3
+
+
+class Why(NamedTuple):
+    """Why a group is a section, in words, and by which entities; none where lines of its own tell it."""
+
+    text: str
+    sources: tuple[Source, ...] = ()
+
+    def __str__(self) -> str:
+        return self.text
+
+
+def together(reasons: Sequence[Why]) -> Why:
+    """Several reasons as one."""
+    sources = itertools.chain(*(why.sources for why in reasons)) if all(why.sources for why in reasons) else ()
+    return Why(" and ".join(dict.fromkeys(why.text for why in reasons)), tuple(sources))
 
 
 class Sections(NamedTuple):
@@ -43,29 +62,32 @@ class Sections(NamedTuple):
     marks: Sequence[Mark]
     tolerance: float
 
-    def among(self, groups: Sequence[Group], left_out: Sequence[Group]) -> dict[int, str]:
+    def among(self, groups: Sequence[Group], left_out: Sequence[Group]) -> dict[int, Why]:
         """The numbers of the groups that are sections, with what tells so; refused where a section is told and its group isn't."""
-        found: dict[int, list[str]] = defaultdict(list)
+        found: dict[int, list[Why]] = defaultdict(list)
         for number, why in (*self.by_hatch(groups), *by_layer(groups)):
             found[number].append(why)
         for number, why in self.by_label(groups, found):
             found[number].append(why)
         self.refuse_lost(groups, found, left_out)
-        return {number: " and ".join(dict.fromkeys(reasons)) for number, reasons in found.items()}
+        return {number: together(reasons) for number, reasons in found.items()}
 
-    def by_hatch(self, groups: Sequence[Group]) -> Iterator[tuple[int, str]]:
+    def by_hatch(self, groups: Sequence[Group]) -> Iterator[tuple[int, Why]]:
         """The groups that a hatch lies in."""
         for box, is_filled, kept in self.hatches:
             number = holding(groups, box, kept, self.tolerance)
             if number is not None and not (is_filled and is_dot(box, groups[number])):
-                yield number, f"{kept.source} lies in it"
-        drawn = Counter(number for box, kept in self.lines if (number := holding(groups, box, kept, self.tolerance)) is not None)
+                yield number, Why(f"{kept.source} lies in it", (kept.source,))
+        drawn: dict[int, list[Source]] = defaultdict(list)
+        for box, kept in self.lines:
+            if (number := holding(groups, box, kept, self.tolerance)) is not None:
+                drawn[number].append(kept.source)
         for number, group in enumerate(groups):
-            count = drawn[number] + len(hatch_lines(group.runs, self.tolerance))
-            if count >= FEWEST_LINES:
-                yield number, f"{count} hatch lines lie in it"
+            lines = (*drawn[number], *(run.edge.source for run in hatch_lines(group.runs, self.tolerance)))
+            if len(lines) >= FEWEST_LINES:
+                yield number, Why(f"{len(lines)} hatch lines lie in it", lines)
 
-    def by_label(self, groups: Sequence[Group], found: dict[int, list[str]]) -> Iterator[tuple[int, str]]:
+    def by_label(self, groups: Sequence[Group], found: dict[int, list[Why]]) -> Iterator[tuple[int, Why]]:
         """The groups that a label stands by: one with a hatch, else the nearest."""
         for _, word in self.labels:
             away = sorted((distance(group.box, word.place), number) for number, group in enumerate(groups)
@@ -77,9 +99,9 @@ class Sections(NamedTuple):
             if not told and len(near) > 1 and near[1][0] < NEARER * near[0][0]:
                 raise Refused(f"{word.text!r}, {word.source}, says that a group of lines is a section, and which isn't told: "
                               f"{groups[near[0][1]]}, or {groups[near[1][1]]}; set it nearer to its group, or leave out its layer")
-            yield (told or near)[0][1], f"{word.text!r} stands by it"
+            yield (told or near)[0][1], Why(f"{word.text!r} stands by it", (word.source,))
 
-    def refuse_lost(self, groups: Sequence[Group], found: dict[int, list[str]], left_out: Sequence[Group]) -> None:
+    def refuse_lost(self, groups: Sequence[Group], found: dict[int, list[Why]], left_out: Sequence[Group]) -> None:
         """Refuses a cutting-plane line whose section is none of the groups that are known as sections."""
         known = {letter for letter, _ in self.labels}
         lost = [mark for mark in self.marks if mark.letter not in known]
@@ -87,8 +109,9 @@ class Sections(NamedTuple):
             return
         letter = lost[0].letter
         number = min(range(len(groups)), key=lambda it: distance(groups[it].box, lost[0].word.place))
+        way = f", or leave it out by {option('leave-out', 'group=')}NUMBER" if len(groups) > FEWEST_VIEWS else ""
         raise Refused(f"a cutting-plane line {letter}-{letter} is drawn at group {number + 1}, {groups[number]}, and which group is its section "
-                      f"isn't told, by a hatch or a label {letter}-{letter}: label it, or leave it out by --leave-out group=NUMBER")
+                      f"isn't told, by a hatch or a label {letter}-{letter}: label it{way}")
 
 
 def holding(groups: Sequence[Group], box: Box, kept: Kept, tolerance: float) -> int | None:
@@ -103,12 +126,12 @@ def is_dot(box: Box, group: Group) -> bool:
     return max(box[2] - box[0], box[3] - box[1]) <= DOT * max(group.width, group.height)
 
 
-def by_layer(groups: Sequence[Group]) -> Iterator[tuple[int, str]]:
+def by_layer(groups: Sequence[Group]) -> Iterator[tuple[int, Why]]:
     """The groups most of whose lines are on a layer or in a block that says section."""
     for number, group in enumerate(groups):
         names = Counter(name for run in group.runs for name in {run.edge.source.layer, run.edge.source.block} if NAMED.search(name))
         if names and 2 * names.most_common(1)[0][1] > len(group.runs):
-            yield number, f"its lines are on the layer or in the block {names.most_common(1)[0][0]}"
+            yield number, Why(f"its lines are on the layer or in the block {names.most_common(1)[0][0]}")
 
 
 def hatch_lines(runs: Sequence[Run], tolerance: float) -> list[Run]:

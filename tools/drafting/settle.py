@@ -288,15 +288,18 @@ def case_of(arguments: argparse.Namespace) -> Case:
         answer, data = answer_of(text_of(arguments.answer)), pathlib.Path(arguments.drawing).read_bytes()
         case = Case(data, lines_within(data), answer.decimals, answer, None)
         if given_in(case.lines):
-            say("draft settle: warning: the drawing has its rounds squared off, and of the solids of the answer not all may be kept")
+            say("draft settle: warning: the drawing is squared off, and of the solids of the answer not all may be kept")
     else:
         asked = asking.ask(arguments.drawing, arguments, lambda text: say(f"draft settle: {text}"))
         case = of_asked(asked)
+        if asked.rounds and asked.rounds.elsewhere:
+            raise Refused(f"the {many(len(asked.kept), 'solid')} of this sheet are kept in several readings of it, which views don't tell apart: draft "
+                          "solve tells them, and --reading N those of one")
         if asked.origin.mirrored and not asked.paper:
             say("draft settle: warning: the sheet shows the part in a mirror, and what is told here is of the mirror image, x turned round")
         if asked.rounds:
-            say(f"draft settle: of {many(len(case.listed), 'solid')} of the drawing with its rounds squared off those are told that are kept, "
-                f"{case.answer.listed}; the views and sections are drawn with the rounds squared off")
+            say(f"draft settle: of {many(len(case.listed), 'solid')} of the squared-off drawing those are told that are kept, {case.answer.listed}; the "
+                "views and sections are drawn squared off")
     head = case.answer.head
     if FAULT.fullmatch(head):
         raise Refused("; ".join(faults.told(head, case.lines)))

@@ -13,22 +13,24 @@ Each thing that is changed or left out is one line on standard error, and what c
 import argparse
 import itertools
 from collections import Counter
-from collections.abc import Callable, Collection, Iterator, Mapping, Sequence
+from collections.abc import Callable, Iterator, Mapping, Sequence
 from fractions import Fraction
-from typing import NamedTuple, Union
+from typing import Any, NamedTuple
 
 from . import documents, files, pairs, scale
+from .advice import Advisable
 from .cutting import Mark, marks_of, without_marks
 from .dimensions import without_dimensions
-from .drawing import VIEWS, Origin, Place, Stroke, places_of, written
-from .messages import Refused, many, say, write_result
-from .groups import Group, meet
+from .drawing import VIEWS, Origin, Stroke, places_of, written
+from .groups import Group
+from .messages import Refused, many, option, say, write_result
 from .paper import Paper
 from .placing import Hints, Placed, by_names, extents_of, main_named, named_views, numbers_of, view_named
-from .reading import Box, Edge, Sheet, Source, Unread, line_of_file, read_sheet
+from .reading import Edge, Sheet, Unread, read_sheet, where
 from .sections import sections_of
 from .straight import MOST_DECIMALS, At, Measure, Run, apart, fits, hidden_by, measure_of, runs_of
 from .styles import Style, choice_of
+from .unread import refuse_oblique, refuse_unread, way_of_style
 
 NAME = "sheet"
 HELP = "write a sheet as people draw it as the drawing that recon reads"
@@ -52,10 +54,18 @@ class Drawn(NamedTuple):
     origin: Origin
     paper: Paper | None = None
     notes: Sequence[str] = ()
-    others: Iterator[Union["Drawn", Refused]] = iter(())
+    others: Iterator["Alike"] = iter(())
     refused: Refused | None = None
     is_plain: bool = True
     page: documents.Page | None = None
+
+
+class Alike(NamedTuple):
+    """Drawings of a sheet that read its lines alike and square its oblique edges to other corners, or why one has none; and as the how many
+    of all the last of them is tried."""
+
+    its: Sequence[Drawn | Refused]
+    last: int
 
 
 def add_options(parser: argparse.ArgumentParser) -> None:
@@ -214,86 +224,9 @@ def found_views(path: str | None, sheet: Sheet, edges: Sequence[Edge], marks: Se
         return placed_views(sheet, edges, marks, arguments, tell)
     except Refused:
         if unstyled := next((it for it in sheet.unread if it.linetype), None):
-            raise Refused(f"a {where(unstyled.source, path)} {unstyled.why}, and without such lines the views aren't there: say --visible, "
-                          f"--hidden or --leave-out linetype={unstyled.linetype}") from None
+            raise Refused(f"a {where(unstyled.source, path)} {unstyled.why}, and without such lines the views aren't there: "
+                          f"{way_of_style(unstyled)}") from None
         raise
-
-
-# ---- what can't be read
-
-def where(source: Source, path: str | None) -> str:
-    return f"{source}{line_of_file(source.file or str(path), source.handle)}"
-
-
-def refuse_unread(path: str | None, placed: Placed, unread: Sequence[Unread], arguments: argparse.Namespace, tell: Tell) -> None:
-    """Refuses what lies within a view and gives no edges; tells what lies beside the views."""
-    left: Counter[str] = Counter()
-    for it in unread:
-        if not it.box:
-            raise Refused(f"a {where(it.source, path)} {it.why}, and where it lies can't be told: draw it otherwise, or leave it out by "
-                          "--leave-out layer=, color= or linetype=")
-        # A line whose linetype tells no style may be a side of the view; other things may touch it from outside.
-        reach = arguments.tolerance if it.linetype else -arguments.tolerance
-        views = [view for view, group in placed.views.items() if it.source.view in ("", view) and meet(group.box, it.box, reach)]
-        if views:
-            raise Refused(f"in {views[0]} a {where(it.source, path)} {it.why}{ways_out(path, it, placed.views[views[0]], placed, arguments)}")
-        if near := view_in_line(it, placed, arguments.tolerance):
-            raise Refused(f"a {where(it.source, path)} {it.why}, and stands in line with {near}, where the view that lacks may be"
-                          f"{ways_out(path, it, placed.views[near], placed, arguments)}")
-        left[f"{it.source.kind} on layer {it.source.layer}, outside the views, which {it.why}"] += 1
-    tell_counted(tell, "left out", left)
-
-
-def view_in_line(it: Unread, placed: Placed, tolerance: float) -> str:
-    """Where names tell the views and a main one lacks, the view beside which something that can't be read may be of it: it reaches no farther
-    to both sides, or upwards and downwards. So no view is lost that has nothing else; of views by their places `placing.py` sees to that."""
-    if not it.box or not placed.by_names or len(main_named(placed.views)) == len(VIEWS):
-        return ""
-    return next((view for view, group in placed.views.items() for axis in (0, 1)
-                 if group.box[axis] - tolerance <= it.box[axis] and it.box[axis + 2] <= group.box[axis + 2] + tolerance), "")
-
-
-def ways_out(path: str | None, it: Unread, group: Group, placed: Placed, arguments: argparse.Namespace) -> str:
-    """What to do about what can't be read: of options only those that were tried and get further."""
-    if it.linetype:
-        return f": say --visible, --hidden or --leave-out linetype={it.linetype}"
-    text = ": recon reads straight level and upright edges alone, and curves of this kind aren't read"
-    if it.box and any(on_border(it.box, end, arguments.tolerance) for run in group.runs for end in (run.edge.start, run.edge.end)):
-        return f"{text}; lines of the view end at it"
-    of_views = {run.edge.source.layer.upper() for one in placed.views.values() for run in one.runs}
-    option = f"layer={it.source.layer}"
-    if it.source.layer.upper() in of_views or not gets_further(path, arguments, it.source, option):
-        return text
-    return f"{text}; where it is no edge of the part, leave it out by --leave-out {option}"
-
-
-def on_border(box: Box, place: Place, tolerance: float) -> bool:
-    """Whether a place lies on a box, at its sides."""
-    x, y = place
-    x0, y0, x1, y1 = box
-    inside = x0 - tolerance <= x <= x1 + tolerance and y0 - tolerance <= y <= y1 + tolerance
-    return inside and min(abs(x - x0), abs(x - x1), abs(y - y0), abs(y - y1)) <= tolerance
-
-
-def gets_further(path: str | None, arguments: argparse.Namespace, source: Source, option: str) -> bool:
-    """Whether a sheet is drawn, or refused for another entity, where something more is left out."""
-    try:
-        draw(path, argparse.Namespace(**{**vars(arguments), "leave_out": [*arguments.leave_out, option]}), lambda text: None)
-    except Refused as refusal:
-        return str(source) not in str(refusal)
-    return True
-
-
-def refuse_oblique(path: str | None, placed: Placed, taken: Collection[Edge] = (), why: str = "") -> None:
-    """Refuses a view with an oblique edge, but for those that are taken."""
-    for view, group in placed.views.items():
-        run = next((run for run in group.runs if run.oblique and run.edge not in taken), None)
-        if run is not None:
-            x, y, behind = (*group.box[:2], ", from its lower left corner on") if run.edge.source.is_drawn else (0.0, 0.0, "")
-            a, b, c, d = (round(it - least, 9) + 0.0 for it, least in zip((*run.edge.start, *run.edge.end), (x, y, x, y)))
-            off = min(abs(a - c), abs(b - d))
-            raise Refused(f"in {view} a {where(run.edge.source, path)} goes from {a:.9g}, {b:.9g} to {c:.9g}, {d:.9g}{behind}: it is oblique, off by "
-                          f"{off:.3g}, and recon reads level and upright edges alone{why} (what is noise is said by --tolerance)")
 
 
 def check_styles(placed: Placed, arguments: argparse.Namespace, tell: Tell) -> None:
@@ -306,12 +239,12 @@ def check_styles(placed: Placed, arguments: argparse.Namespace, tell: Tell) -> N
     layers = sorted({run.edge.source.layer for run in runs})
     if len(colours) > 1:
         raise Refused(f"no line is hidden by its linetype or layer, and the views have lines of colours {', '.join(map(str, colours))}: say "
-                      "which are hidden by --hidden color=NUMBER, or --all-visible")
+                      f"which are hidden by {option('hidden', 'color=')}NUMBER, or {option('all-visible')}")
     if any(layer.startswith("ProjItem") for layer in layers):
         raise Refused("a page of FreeCAD's TechDraw, which tells no linetypes: export it a second time with hidden lines off and name that "
-                      "by --visible-only, or say --all-visible")
-    tell(f"warning: no line is hidden, on the layers {', '.join(layers)}; where some are, say which by --hidden; where they aren't drawn, "
-         "`draft solve --visible-edges-alone` lists some solids that have the visible ones")
+                      f"by {option('visible-only')}, or say {option('all-visible')}")
+    tell(f"warning: no line is hidden, on the layers {', '.join(layers)}; where some are, say which by {option('hidden')}; where they aren't "
+         "drawn, `draft solve --visible-edges-alone` lists some solids that have the visible ones")
 
 
 # ---- what is written
@@ -428,11 +361,11 @@ def unfit(path: str | None, ats: Sequence[At], times: Fraction, arguments: argpa
     kinds = f"up to {MOST_DECIMALS} decimals, nor do all lengths fit parts of a unit" if decimals is None else many(decimals, "decimal")
     wider = next((f"{tolerance * it:g}" for it in (10, 100) for count in range(MOST_DECIMALS)
                   if fits(lengths, times, count, tolerance * it) is not None), "")
-    way = "draw it at a place with fewer decimals, or say the --scale at which it has fewer"
+    way = "draw it with fewer decimals"
     if wider:
-        way = f"say --tolerance {wider}, where this is noise"
+        way = f"say {option('tolerance', wider)} where this is noise"
     if decimals is not None and measure_of(lengths, times, None, tolerance):
-        way = "leave out --sheet-decimals"
+        way = f"leave out {option('sheet-decimals')}"
     return Refused(f"in {odd.view} {odd.told(lambda source: where(source, path))} is {odd.length:.9g} from the view's least {odd.axis}, which doesn't "
                    f"fit {kinds}: {way}")
 
@@ -450,10 +383,46 @@ def draw_readings(path: str | None, arguments: argparse.Namespace, tell: Tell) -
     if not 0 < arguments.tolerance < 1e6:
         raise Refused(f"no tolerance: {arguments.tolerance}")
     sheet, marks = edges_of(path, arguments, tell)
-    if sheet.arcs:
+    try:
+        if not sheet.arcs and not has_oblique(path, sheet, marks, arguments):
+            return draw_straight(path, sheet, marks, arguments, tell)
         from . import squared  # which draws by what stands here
-        return squared.first(path, sheet, marks, arguments, tell)
-    return draw_straight(path, sheet, marks, arguments, tell)
+        drawn = squared.first(path, sheet, marks, arguments, tell)
+        return drawn._replace(refused=drawn.refused and advised(path, sheet, arguments, drawn.refused))
+    except Refused as refusal:
+        raise advised(path, sheet, arguments, refusal) from None
+
+
+def advised(path: str | None, sheet: Sheet, arguments: argparse.Namespace, refusal: Refused) -> Refused:
+    """A refusal with its advice, unless this sheet is tried for that of another one."""
+    if not isinstance(refusal, Advisable) or getattr(arguments, "is_tried", False):
+        return refusal
+    cause: Advisable = refusal
+    edges = [edge.source for edge in sheet.edges] + [arc.source for arc in sheet.arcs]
+    return cause.advised(edges, lambda changes: gets_further(path, arguments, cause, changes))
+
+
+def gets_further(path: str | None, arguments: argparse.Namespace, refusal: Advisable, changes: Mapping[str, object]) -> bool:
+    """Whether a sheet that was refused is drawn, or refused for another entity, with what is advised."""
+    more: dict[str, Any] = {name: [*getattr(arguments, name), *it] if isinstance(it, list) else it for name, it in changes.items()}
+    try:
+        draw(path, argparse.Namespace(**{**vars(arguments), **more, "is_tried": True}), lambda text: None)
+    except Advisable as other:
+        return bool(other.sources) and not other.sources & refusal.sources
+    except Refused:
+        return False
+    return True
+
+
+def has_oblique(path: str | None, sheet: Sheet, marks: Sequence[Mark], arguments: argparse.Namespace) -> bool:
+    """Whether views that stand on one sheet have oblique edges."""
+    if all(min(abs(a - b) for a, b in zip(edge.start, edge.end)) <= arguments.tolerance or edge.source.file for edge in sheet.edges):
+        return False
+    try:
+        placed = found_views(path, sheet, sheet.edges, marks, arguments, lambda text: None)
+    except Refused:
+        return False
+    return len(main_named(placed.views)) == len(VIEWS) and any(run.oblique for group in placed.views.values() for run in group.runs)
 
 
 def draw_straight(path: str | None, sheet: Sheet, marks: Sequence[Mark], arguments: argparse.Namespace, tell: Tell) -> Drawn:
@@ -467,7 +436,7 @@ def draw_straight(path: str | None, sheet: Sheet, marks: Sequence[Mark], argumen
 def checked_views(path: str | None, sheet: Sheet, edges: Sequence[Edge], marks: Sequence[Mark], arguments: argparse.Namespace, tell: Tell) -> Placed:
     """The views of a sheet; refused where something in them can't be read."""
     placed = found_views(path, sheet, edges, marks, arguments, tell)
-    refuse_unread(path, placed, sheet.unread, arguments, tell)
+    tell_counted(tell, "left out", refuse_unread(path, placed, sheet.unread, arguments.tolerance))
     refuse_oblique(path, placed)
     if not sheet.page:
         check_styles(placed, arguments, tell)

@@ -91,10 +91,13 @@ def cut_told(what: str, limit: int, count: int) -> str:
 def head_told(head: str, count: int, missing: str = "", rounds: Readings | None = None) -> str:
     """How a search ended, with so many solids, and which main view isn't drawn; its own figures stand below, small. Of a sheet with rounds
     those solids count that are kept."""
-    made = " made of boxes and these rounds, each standing free,"
+    made = f" {rounds.made}," if rounds else ""
     cut = CUT.fullmatch(head)
     if cut:
         words = cut_told(cut[1], int(cut[2]), count)
+    elif rounds and rounds.elsewhere:
+        words = verdict("ambiguous", "Ambiguous", f"{count + rounds.elsewhere:,} solids{made} have these views{rounds.where}, of which those are shown "
+                        "that are kept in one reading of the sheet.")
     elif count > 1:
         ambiguous = f"{count:,} solids{made} have these views{rounds.where}" if rounds else have_views(count, missing)
         words = verdict("ambiguous", "Ambiguous", f"{ambiguous}.")

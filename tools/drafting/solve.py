@@ -7,7 +7,7 @@ where --visible-edges-alone lists some by clingo, of which nothing is proved.
 With --json standard output is one record for programs instead, whole or not, at a fault and where the sheet is refused too: its schema is
 `recon.solve/1`, which tools/LIBRARY.md tells, with all solids and their faces; `table --json` has a line of the same for each drawing.
 
-Of a sheet with circles and arcs it says which solids made of boxes and these rounds have the views: how, `draft sheet --help` names.
+Of a sheet with circles, arcs and oblique edges it says which solids made of boxes and these have the views: how, `draft sheet --help` names.
 """
 import argparse
 import json
@@ -59,10 +59,6 @@ def told(asked: asking.Asked, listed: int) -> list[str]:
     return rows
 
 
-# What is promised of a sheet with rounds.
-MADE = "made of boxes and these rounds, each standing free,"
-
-
 def count_rounded(asked: asking.Asked, rounds: Readings, first: Answered) -> list[str]:
     """How many solids there are of a sheet with rounds."""
     count = len(asked.kept)
@@ -70,16 +66,16 @@ def count_rounded(asked: asking.Asked, rounds: Readings, first: Answered) -> lis
         head = first.run.text.partition("\n")[0]
         return count_told(asked, head, count)
     if not count:
-        return [f"No solid is found that is {MADE.rstrip(',')}, and has these views."]
+        return [f"No solid is found that is {rounds.made}, and has these views."]
     many_told = "One solid" if count == 1 else f"{count:,} solids"
-    return [f"{many_told} {MADE} {'has' if count == 1 else 'have'} these views{rounds.where}: the search was whole."]
+    return [f"{many_told} {rounds.made}, {'has' if count == 1 else 'have'} these views{rounds.where}: the search was whole."]
 
 
 def rounded_told(asked: asking.Asked, rounds: Readings, listed: int) -> list[str]:
     """What is told of a sheet with rounds."""
     first = next(iter(rounds.kept), rounds.first)
     if first is None:
-        return ["No solid is found: recon takes none of the drawings with the rounds squared off."]
+        return ["No solid is found: recon takes none of the squared-off drawings."]
     rows = count_rounded(asked, rounds, first)
     for number, one in enumerate(asked.kept[:listed], 1):
         sizes = " by ".join(asked.length(size) for size in sizes_of(one.solid))

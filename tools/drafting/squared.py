@@ -9,7 +9,7 @@ from collections.abc import Iterator, Mapping, Sequence
 from fractions import Fraction
 from typing import NamedTuple
 
-from . import cones, given, rounds, sheet, tangent
+from . import chamfers, cones, given, rounds, sheet, tangent
 from .cutting import Mark
 from .drawing import VIEWS, Place
 from .given import Cone, Given, Stretch
@@ -17,15 +17,17 @@ from .groups import Group, frames, holds, merged, pieces_of
 from .messages import Refused, many
 from .panels import FRAMES
 from .placing import Placed
-from .reading import Arc, Box, Edge, Sheet, Unread
+from .reading import Arc, Box, Edge, Sheet, Unread, where
 from .rounds import OF_ONE, Move, Round, Squares, box_of, is_level, is_straight
 from .straight import Measure, Run, runs_of
 from .tangent import Reading, Views
+from .unread import refuse_oblique, refuse_unread
 
 # The decimals of coordinates that have no end, as on a bolt circle: solids go by their order alone.
 ROUNDED = 4
-# What is added where an oblique edge is refused on a sheet with rounds.
+# What is added where an oblique edge is refused.
 NO_CONE = ", and of cones those at the ends of whole circles' holes and bosses, which both views from the side draw"
+NO_CORNER = "; it is no corner that is cut off or filled straight through either: {}"
 # How far curves end from the lines that they meet, in files with three decimals, and by what share of the sheet.
 ENDS, SHARE = 6e-4, 1e-5
 # The most circles and arcs of a sheet, and how many warnings of one kind are told.
@@ -36,7 +38,8 @@ IN_LINE = 2e-3
 
 class Found(NamedTuple):
     """What is read of a sheet, and its cutting-plane lines: its lines, its arcs within the views, and where these are;
-    its cones, from the views' least corners on, and what their oblique edges become."""
+    its cones, from the views' least corners on, and what their oblique edges become; and the ways in which other oblique edges are squared
+    to corners."""
 
     path: str | None
     sheet: Sheet
@@ -47,6 +50,8 @@ class Found(NamedTuple):
     arguments: argparse.Namespace
     cones: Sequence[Cone] = ()
     flanks: Mapping[Edge, tuple[Edge, ...]] = {}
+    corners: Sequence[tuple[chamfers.Squared, ...]] = ((),)
+    has_all_corners: bool = True
 
     @property
     def tolerance(self) -> float:
@@ -55,7 +60,7 @@ class Found(NamedTuple):
     def views(self, rounds_of: Sequence[Round]) -> Views:
         boxes = {view: group.box for view, group in self.placed.views.items()}
         placed = [(view, one) for one in rounds_of for view, box in boxes.items() if holds(box, one.box, OF_ONE * self.tolerance)]
-        return Views(boxes, self.lines, placed, self.tolerance)
+        return Views(boxes, self.lines, placed, self.tolerance, self.placed.mirrored)
 
 
 # ---- two exports of one sheet
@@ -163,8 +168,8 @@ def read(path: str | None, read_sheet: Sheet, marks: Sequence[Mark], arguments: 
     tolerance, edges, arcs = arguments.tolerance, read_sheet.edges, read_sheet.arcs
     if len(arcs) > MOST_ARCS:
         raise Refused(f"{len(arcs):,} circles and arcs, more than {MOST_ARCS:,}")
-    if apart := next((arc for arc in arcs if arc.source.file), None):
-        raise Refused(f"in {apart.source.view} a {sheet.where(apart.source, path)} is no straight line, and circles and arcs are read where "
+    if apart := next((arc for arc in arcs if arc.source.file), None):  # of oblique edges sheet.py sees to that
+        raise Refused(f"in {apart.source.view} a {where(apart.source, path)} is no straight line, and circles and arcs are read where "
                       "all views stand on one sheet")
     if read_sheet.seen:
         arcs = list(arcs_hidden_by(arcs, read_sheet.seen.arcs, tolerance))
@@ -177,16 +182,23 @@ def read(path: str | None, read_sheet: Sheet, marks: Sequence[Mark], arguments: 
     if missing := [view for view in VIEWS if view not in placed.views]:
         raise Refused(f"{missing[0]} isn't drawn, and a sheet with circles or arcs is read where all three main views are there: draw it too")
     # What no reading changes is refused at once.
-    sheet.refuse_unread(path, placed, read_sheet.unread, arguments, lambda text: None)
+    refuse_unread(path, placed, read_sheet.unread, tolerance)
     found, flanks = cones_in(placed, edges, rounds.rounds_of(kept, tolerance), tolerance)
-    sheet.refuse_oblique(path, placed, flanks, NO_CONE)
+    views = Views({view: group.box for view, group in placed.views.items()}, edges, [], tolerance, placed.mirrored)
+    oblique, causes = chamfers.chamfers_of(views, flanks)
+    refuse_oblique(path, placed, [*flanks, *(edge for one in oblique for edge in one.edges)], lambda edge: not_taken(causes.get(edge)))
     for arc in kept:
         if not any(holds(group.box, arc_box(arc), OF_ONE * tolerance) for group in placed.views.values()):
             left.append(arc)
     counts = Counter(f"{arc.source.kind} on layer {arc.source.layer}, outside the views" for arc in left)
     sheet.tell_counted(tell, "left out", counts)
     within = [arc for arc in kept if not any(arc is it for it in left)]
-    return Found(path, read_sheet, marks, edges, within, placed, arguments, found, flanks)
+    return Found(path, read_sheet, marks, edges, within, placed, arguments, found, flanks, *chamfers.choices(views, oblique))
+
+
+def not_taken(cause: str | None) -> str:
+    """What an oblique edge is none of."""
+    return NO_CONE + (NO_CORNER.format(cause) if cause else "")
 
 
 def cones_in(placed: Placed, edges: Sequence[Edge], its: Sequence[Round], tolerance: float) -> tuple[list[Cone], dict[Edge, tuple[Edge, ...]]]:
@@ -210,15 +222,15 @@ def cones_in(placed: Placed, edges: Sequence[Edge], its: Sequence[Round], tolera
 def remapped(edges: Sequence[Edge], moves: Sequence[Move], found: Found) -> list[Edge]:
     """In the views that see a round from its side, the lines where walls meet it, moved to where they meet its square."""
     noise = OF_ONE * found.tolerance
-    boxes = {view: group.box for view, group in found.placed.views.items()}
+    views = found.views([])
     changes: list[tuple[Box, int, float, float]] = []
     for move in moves:
-        for view in [it for it, box in boxes.items() if holds(box, box_of([move.one.centre]), noise)]:
+        for view in [it for it, box in views.boxes.items() if holds(box, box_of([move.one.centre]), noise)]:
             axis = FRAMES[view].up if move.along else FRAMES[view].right
-            ends = [tangent.place_along(view, boxes[view], axis, it) for it in (move.before, move.after)]
-            for other, box in boxes.items():
+            ends = [views.depth(view, axis, it) for it in (move.before, move.after)]
+            for other, box in views.boxes.items():
                 if other != view and axis in (FRAMES[other].right, FRAMES[other].up):
-                    before, after = (tangent.place_along(other, box, axis, it, True) for it in ends)
+                    before, after = (views.place(other, axis, it) for it in ends)
                     changes.append((box, 0 if FRAMES[other].right == axis else 1, before, after))
     return [moved(edge, changes, noise) for edge in edges]
 
@@ -232,17 +244,19 @@ def moved(edge: Edge, changes: Sequence[tuple[Box, int, float, float]], noise: f
     return edge._replace(start=(ends[0][0], ends[0][1]), end=(ends[1][0], ends[1][1]))
 
 
-def squared(found: Found, reading: Reading) -> tuple[list[Edge], Squares]:
-    """The lines that a reading leaves, and the sheet squared off."""
+def squared(found: Found, reading: Reading, corners: Sequence[chamfers.Squared]) -> tuple[list[Edge], Squares]:
+    """The lines that a reading leaves, and the sheet squared off, its oblique edges to some corners."""
     views = found.views(rounds.rounds_of(found.arcs, found.tolerance))
     lines = tangent.without(found.lines, reading.left, found.tolerance)
-    stepped = [it for edge in lines for it in found.flanks.get(edge, (edge,))]
+    stepped = chamfers.squared_off([it for edge in lines for it in found.flanks.get(edge, (edge,))], corners, found.tolerance)
     given_edges = [*stepped, *tangent.added(views, reading)]
     inner = [one.centre for view, one in views.rounds if (view, round(one.radius, 2)) in reading.inner]
     its = [one._replace(is_inner=len(one.numbers) == 1 and not one.cuts and one.centre in inner) for _, one in views.rounds]
     squares = rounds.Squaring(given_edges, its, found.tolerance, reading.is_eager).done()
     if cut := [it for it in squares.moves if it.one.cuts or reading.is_eager]:
         squares = rounds.Squaring(remapped(given_edges, cut, found), its, found.tolerance, reading.is_eager).done()
+    squares.doubts.extend(chamfers.doubts_of(corners, [it for it in lines if is_straight(it, OF_ONE * found.tolerance)], its, found.tolerance))
+    squares.doubts.extend([] if found.has_all_corners else [f"its oblique edges may be squared off in more than {chamfers.MOST} ways"])
     return lines, squares
 
 
@@ -280,15 +294,21 @@ class Frame(NamedTuple):
                          for it in one.quarters)
         return given.Squared(view, self.place(one.centre), one.radius * self.times, quarters, bool(one.cuts))
 
+    def chamfer(self, it: chamfers.Squared) -> given.Chamfer:
+        return given.Chamfer(it.one.view, rounds.Slant(self.place(it.slant.centre), self.place(it.slant.corner)))
+
     def stretch(self, it: Stretch) -> Stretch:
         ends = self.edge(it.edge())
         low, high = tangent.span_of(ends, 1 if it.is_upright else 0)
         return it._replace(at=ends.start[0 if it.is_upright else 1], low=low, high=high)
 
 
-def given_by(found: Found, placed: Placed, lines: Sequence[Edge], squares: Squares, left: tangent.Left, times: float) -> Given:
+def given_by(
+    found: Found, placed: Placed, lines: Sequence[Edge], squares: Squares, corners: Sequence[chamfers.Squared], left: tangent.Left, times: float
+) -> Given:
     """What the drawing says of its sheet."""
-    result, noise = Given([], {}, {}, [], squares.doubts, [it.times(times) for it in found.cones]), OF_ONE * found.tolerance
+    oblique = tuple(Frame(placed.views[it.one.view], times, placed.mirrored).chamfer(it) for it in corners)
+    result, noise = Given([], {}, {}, [], squares.doubts, [it.times(times) for it in found.cones], chamfers=oblique), OF_ONE * found.tolerance
     for view, group in placed.views.items():
         frame = Frame(group, times, placed.mirrored)
         for one in squares.rounds:
@@ -326,9 +346,9 @@ def doubts_of_cones(found: Found) -> list[str]:
     return [f"{many(len(found.cones), 'place')} of cones in line may have them in more than {count} ways"] if count >= cones.MOST else []
 
 
-def drawn(found: Found, reading: Reading, number: tuple[int, int], tell: sheet.Tell) -> sheet.Drawn:
-    """The drawing of one reading of a sheet."""
-    lines, squares = squared(found, reading)
+def drawn(found: Found, reading: Reading, corners: Sequence[chamfers.Squared], number: tuple[int, int], tell: sheet.Tell) -> sheet.Drawn:
+    """The drawing of one reading of a sheet, with its oblique edges squared to some corners."""
+    lines, squares = squared(found, reading, corners)
     squares.doubts.extend(doubts_of_cones(found))
     placed = sheet.checked_views(found.path, found.sheet, squares.edges, found.marks, found.arguments, tell)
     check_within(found, placed)
@@ -339,11 +359,8 @@ def drawn(found: Found, reading: Reading, number: tuple[int, int], tell: sheet.T
         views = found.views(squares.rounds)
         smooth = [(it, False) for it in tangent.candidates(views) if it.owners & set(reading.inner)]
         lines, left = tangent.without(lines, smooth, found.tolerance), [*left, *smooth]
-    told = given_by(found, placed, lines, squares, tuple(left), float(measure.times))._replace(reading=number)
-    for view in placed.views:
-        circles = [it for it in told.rounds if it.view == view]
-        if circles:
-            tell(f"changed: in {view} {many(len(circles), 'circle or round', 'circles or rounds')} squared off, of {radii_told(circles)}")
+    told = given_by(found, placed, lines, squares, corners, tuple(left), float(measure.times))._replace(reading=number)
+    tell_squares(told, tell)
     tell_cones(found, tell)
     for stretch in told.smooth:
         way = "upright" if stretch.is_upright else "level"
@@ -355,6 +372,15 @@ def drawn(found: Found, reading: Reading, number: tuple[int, int], tell: sheet.T
     return sheet.drawn_views(found.path, found.sheet, placed, times, measure, found.arguments, tell, given.comments(told))
 
 
+def tell_squares(told: Given, tell: sheet.Tell) -> None:
+    for view in dict.fromkeys(it.view for it in told.squared):
+        circles = [it for it in told.rounds if it.view == view]
+        if circles:
+            tell(f"changed: in {view} {many(len(circles), 'circle or round', 'circles or rounds')} squared off, of {radii_told(circles)}")
+        if count := sum(it.view == view for it in told.chamfers):
+            tell(f"changed: in {view} {many(count, 'oblique edge')} squared off to {'a corner' if count == 1 else 'corners'}")
+
+
 def radii_told(circles: Sequence[given.Squared]) -> str:
     radii = sorted({f"{it.radius:.6g}" for it in circles}, key=float)
     return f"radius {radii[0]}" if len(radii) == 1 else f"radii {', '.join(radii)}"
@@ -362,33 +388,43 @@ def radii_told(circles: Sequence[given.Squared]) -> str:
 
 # ---- all readings
 
-def drawings(found: Found) -> Iterator[sheet.Drawn | Refused]:
+def drawings(found: Found) -> Iterator[sheet.Alike]:
     """The drawings of a sheet by its readings, the likeliest first, or why one has none."""
     views = found.views(rounds.rounds_of(found.arcs, found.tolerance))
     # Of a page no smooth edge is drawn.
     its, count = tangent.readings([] if found.sheet.page else tangent.candidates(views), tangent.kinds_of(views.rounds))
     only = found.arguments.reading
-    if only is not None and not 1 <= only <= len(its):
-        raise Refused(f"there is no reading {only}: {many(len(its), 'reading')} of this sheet")
-    for number, reading in enumerate(its, 1):
-        notes: list[str] = []
-        if only in (None, number):
-            try:
-                yield drawn(found, reading, (number, count), notes.append)._replace(notes=notes, is_plain=number <= count)
-            except Refused as refusal:
-                yield refusal
+    ways = len(found.corners)
+    if only is not None and not 1 <= only <= len(its) * ways:
+        raise Refused(f"there is no reading {only}: {many(len(its) * ways, 'reading')} of this sheet")
+    for at, reading in enumerate(its):
+        numbers = [number for number in range(at * ways + 1, (at + 1) * ways + 1) if only in (None, number)]
+        if numbers:
+            yield sheet.Alike([tried(found, reading, number, count) for number in numbers], numbers[-1])
+
+
+def tried(found: Found, reading: Reading, number: int, count: int) -> sheet.Drawn | Refused:
+    """The drawing of one reading, by its number among as many as there are ways to square the oblique edges of each; or why it has none."""
+    notes: list[str] = []
+    ways = len(found.corners)
+    try:
+        made = drawn(found, reading, found.corners[(number - 1) % ways], (number, count * ways), notes.append)
+    except Refused as refusal:
+        return refusal
+    return made._replace(notes=notes, is_plain=number <= count * ways)
 
 
 def first(path: str | None, read_sheet: Sheet, marks: Sequence[Mark], arguments: argparse.Namespace, tell: sheet.Tell) -> sheet.Drawn:
     """The drawing of the first reading of a sheet that has one, and those of the others."""
     found = read(path, read_sheet, marks, arguments, tell)
-    if not found.arcs:
+    if not found.arcs and not any(found.corners):
         return sheet.draw_straight(path, read_sheet, marks, arguments, tell)
     others, why = drawings(found), None
-    for one in others:
-        if isinstance(one, sheet.Drawn):
-            is_plain = arguments.reading is not None or why is None or one.is_plain
-            return one._replace(others=others, refused=None if is_plain else why)
-        why = why or one
+    for group in others:
+        for one in group.its:
+            if isinstance(one, sheet.Drawn):
+                is_plain = arguments.reading is not None or why is None or one.is_plain
+                return one._replace(others=itertools.chain([group], others), refused=None if is_plain else why)
+            why = why or one
     assert why is not None
     raise why

@@ -42,7 +42,7 @@ def warn_ambiguous(count: int, answer: Answer, sheet: Sheet) -> None:
     """Of several solids it is told that one alone is the part, and what would settle the drawing, where that tells these apart."""
     if count > 1:
         told_apart = len({it.choice for it in answer.solids}) == count
-        way = settled_by(answer, sheet) if told_apart else "with its rounds squared off it doesn't tell them apart"
+        way = settled_by(answer, sheet) if told_apart else "squared off it doesn't tell them apart"
         say(f"draft step: warning: the drawing is ambiguous: {many(count, 'solid')} have its views, and one alone is the part; {way}"
             + (" (draft settle --meant K says how)" if told_apart else ""))
 
@@ -55,7 +55,7 @@ def given_shapes(arguments: argparse.Namespace) -> tuple[str, dict[int, Solid], 
     if FAULT.fullmatch(answer.head):
         raise Refused("; ".join(faults.told(answer.head, lines)))
     if given_in(lines):
-        raise Refused("the drawing has its rounds squared off: they are rounded back where the answer isn't given")
+        raise Refused("the drawing is squared off: its solids are rounded back where the answer isn't given")
     warn_ambiguous(len(answer.solids), answer, sheet_of(views_of(lines), answer.decimals))
     return answer.head, dict(enumerate(answer.solids, 1)), origin.times * 10**answer.decimals
 
@@ -94,7 +94,7 @@ def rounded_shapes(asked: asking.Asked) -> dict[int, Shape]:
     assert asked.rounds
     first = next(iter(asked.rounds.kept), asked.rounds.first)
     if not asked.kept:
-        raise Refused("; ".join(["no solid is kept once its rounds are rounded back", *(first.outcome.told() if first else [])]))
+        raise Refused("; ".join(["no solid is kept once it is rounded back", *(first.outcome.told() if first else [])]))
     for text in (*(first.outcome.told() if first else []), *asked.rounds.told(), *(f"warning: {it}" for it in (first.given.doubts if first else []))):
         say(f"draft step: {text}")
     answer = asked.answer()._replace(solids=of_first_reading(asked))
@@ -126,7 +126,7 @@ def shapes_of(arguments: argparse.Namespace) -> tuple[str, dict[int, Shape], int
     head = asked.run.text.partition("\n")[0]
     if asked.rounds:
         shapes = rounded_shapes(asked)
-        return f"{many(len(shapes), 'solid')} of boxes and rounds", shapes, len(shapes)
+        return f"{many(len(shapes), 'solid')} {asked.rounds.made}", shapes, len(shapes)
     answer = asked.answer()
     warn_ambiguous(len(answer.solids), answer, asked.sheet())
     solids = dict(enumerate(answer.solids, 1))

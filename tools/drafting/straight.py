@@ -6,6 +6,8 @@ from collections.abc import Callable, Iterable, Sequence
 from fractions import Fraction
 from typing import NamedTuple
 
+from .advice import Noisy
+from .drawing import Place
 from .messages import Refused
 from .reading import Box, Edge, Source
 
@@ -130,6 +132,19 @@ def are_one(one: Edge, other: Edge, tolerance: float) -> bool:
                for a, b in ((other.start, other.end), (other.end, other.start)))
 
 
+# ---- oblique lines
+
+def off(place: Place, line: tuple[Place, Place]) -> float:
+    """How far a place lies from a line through two others."""
+    (x, y), (right, up) = line
+    return abs((place[0] - x) * (up - y) - (place[1] - y) * (right - x)) / math.dist(*line)
+
+
+def along(place: Place, line: Edge) -> float:
+    """How far along a line a place lies, from its start on."""
+    return sum((b - a) * (it - a) for a, b, it in zip(line.start, line.end, place)) / math.dist(line.start, line.end)
+
+
 # ---- whole coordinates
 
 class At(NamedTuple):
@@ -149,10 +164,9 @@ def apart(values: Iterable[At], tolerance: float, where: Callable[[Source], str]
     """Refuses coordinates that are farther apart than noise and nearer than edges are."""
     for one, other in itertools.pairwise(sorted(values, key=lambda it: it.length)):
         if tolerance < other.length - one.length < APART * tolerance:
-            raise Refused(
-                f"{one.view} has coordinates {other.length - one.length:.3g} apart, {one.told(where)} and {other.told(where)}: more than noise and "
-                f"less than an edge; say by --tolerance what is noise (now {tolerance:.3g})"
-            )
+            off = other.length - one.length
+            raise Noisy(f"{one.view} has coordinates {off:.3g} apart, {one.told(where)} and {other.told(where)}: more than noise, which is {tolerance:.3g}, "
+                        f"and less than an edge", off, off / APART)
 
 
 class Measure(NamedTuple):

@@ -33,12 +33,22 @@ class Reading(NamedTuple):
 
 
 class Views(NamedTuple):
-    """The views' boxes on the sheet, its straight lines, and the rounds of each view."""
+    """The views' boxes on the sheet, its lines, and the rounds of each view; and whether all views are drawn in a mirror, x turned round,
+    since the side view is the left one."""
 
     boxes: Mapping[str, Box]
     lines: Sequence[Edge]
     rounds: Sequence[tuple[str, Round]]
     tolerance: float
+    mirrored: bool
+
+    def depth(self, view: str, axis: int, place: float) -> float:
+        """How far along an axis of space, from the part's least corner on, a place of a view lies."""
+        return place_along(view, self.boxes[view], axis, place, False, self.mirrored)
+
+    def place(self, view: str, axis: int, depth: float) -> float:
+        """Where in a view a place of the part lies along an axis."""
+        return place_along(view, self.boxes[view], axis, depth, True, self.mirrored)
 
 
 class Side(NamedTuple):
@@ -67,10 +77,10 @@ def span_of(edge: Edge, way: int) -> tuple[float, float]:
     return low, high
 
 
-def place_along(view: str, box: Box, axis: int, value: float, is_turned: bool = False) -> float:
+def place_along(view: str, box: Box, axis: int, value: float, is_turned: bool = False, is_mirrored: bool = False) -> float:
     """How far along an axis of space, from the part's least corner on, a place of a view lies; or, turned, where such a place lies."""
     frame = FRAMES[view]
-    at, is_back = (0, frame.right_back) if frame.right == axis else (1, frame.up_back)
+    at, is_back = (0, frame.right_back != is_mirrored) if frame.right == axis else (1, frame.up_back)
     if is_turned:
         return box[at + 2] - value if is_back else box[at] + value
     return box[at + 2] - value if is_back else value - box[at]
@@ -91,11 +101,11 @@ def within(views: Views, view: str) -> list[Edge]:
 
 def sides_of(views: Views, view: str, one: Round, lines: Mapping[str, list[Edge]]) -> Iterator[Side]:
     """A round from its sides."""
-    for other, box in views.boxes.items():
+    for other in views.boxes:
         axis = shared_axis(view, other)
         if axis is not None:
             centre = one.centre[0 if axis == FRAMES[view].right else 1]
-            at = place_along(other, box, axis, place_along(view, views.boxes[view], axis, centre), True)
+            at = views.place(other, axis, views.depth(view, axis, centre))
             yield Side(other, axis == FRAMES[other].right, at, one.radius, lines[other])
 
 
@@ -151,7 +161,7 @@ def without_one(edge: Edge, stretch: Stretch, both: bool, tolerance: float) -> I
     """What is left of an edge."""
     way = 1 if stretch.is_upright else 0
     low, high = span_of(edge, way)
-    is_on = is_level(edge) != stretch.is_upright and abs(edge.start[1 - way] - stretch.at) <= OF_ONE * tolerance
+    is_on = is_level(edge) != stretch.is_upright and all(abs(end[1 - way] - stretch.at) <= OF_ONE * tolerance for end in (edge.start, edge.end))
     is_beside = low >= stretch.high - tolerance or high <= stretch.low + tolerance
     if not is_on or is_beside or not both and edge.hidden != stretch.hidden:
         yield edge
@@ -271,4 +281,4 @@ def corner_beside(side: Side, view: str, one: Round, views: Views) -> float:
     axis = shared_axis(view, side.view)
     assert axis is not None
     corner = one.quarters[0].corner[0 if axis == FRAMES[view].right else 1]
-    return place_along(side.view, views.boxes[side.view], axis, place_along(view, views.boxes[view], axis, corner), True)
+    return views.place(side.view, axis, views.depth(view, axis, corner))

@@ -19,17 +19,17 @@ from . import asking, changes, faults, least, picture, program, trials, unfit
 from .answers import FAULT, WHOLE, answer_of
 from .changes import Change, Judged, Kind
 from .drawing import VIEWS, Line, Origin, further_in, views_of, written
-from .given import Given, given_in
+from .given import Chamfer, Given, given_in
 from .messages import Progress, Refused, many, say, write_result
 from .panels import AXES, BLANK, DASHED, FRAMES, SOLID, STYLES, Grid, Row, Sheet, Stroke, grid_of, runs_of
-from .rounds import Quarter
+from .rounds import Quarter, Slant
 from .tangent import shared_axis
 from .trials import Outcome, Tried
 
 NAME = "why"
 HELP = "what would have to be drawn otherwise, where no solid has the views"
 
-SQUARED = "Its rounds are squared off: what is told is of that drawing, where each circle is its square."
+SQUARED = "Its {} are squared off: what is told is of that drawing, where each circle is its square, and an oblique edge a corner."
 # How many changed drawings the program is run on, and for how many seconds clingo looks, unless the arguments say otherwise.
 RUNS, SEARCH = 10_000, 60.0
 
@@ -136,18 +136,18 @@ def round_told(placed: Placed, row: Row, low: int, high: int) -> str:
         return ""
     unit = 10**placed.sheet.decimals
     along, at = placed.grid.along(row), placed.grid.ats(row)[row.number] / unit
-    for one in placed.given.rounds:
+    for one in placed.given.squared:
         if one.view == row.view and any(is_on_square(it, row.upright, at, along[low] / unit, along[high] / unit) for it in one.quarters):
-            return f", by the square of a {one}"
+            return f", by the corner of an {one}" if isinstance(one, Chamfer) else f", by the square of a {one}"
         axis = shared_axis(one.view, row.view) if one.view != row.view else None
         if axis is not None and row.upright == (axis == FRAMES[row.view].right):
             across = 0 if axis == FRAMES[one.view].right else 1
             if any(abs(it.corner[across] - at) < 1e-6 for it in one.quarters):
-                return f", where a {one} is seen from its side"
+                return f", where {'an' if isinstance(one, Chamfer) else 'a'} {one} is seen from its side"
     return ""
 
 
-def is_on_square(quarter: Quarter, is_upright: bool, at: float, low: float, high: float) -> bool:
+def is_on_square(quarter: Quarter | Slant, is_upright: bool, at: float, low: float, high: float) -> bool:
     """Whether a stretch lies along a side at a quarter's sharp corner."""
     across, way = (0, 1) if is_upright else (1, 0)
     return abs(quarter.corner[across] - at) < 1e-6 and low < quarter.box[way + 2] and high > quarter.box[way]
@@ -341,7 +341,7 @@ def told_of(asked: asking.Asked, path: pathlib.Path, limits: Limits, tell: Found
     further, given = further_in(asked.lines), given_in(asked.lines)
     if not further:
         rows, found = looked_at(path, sheet, asked.run.text.partition("\n")[0], limits, tell, given)
-        return ([*rows[:1], SQUARED, *rows[1:]] if given else rows), found
+        return ([*rows[:1], SQUARED.format(given.kinds), *rows[1:]] if given else rows), found
     tried = Tried(grid_of(sheet))
     main = tried.changed(())
     alone = program.run(path, [*tried.words, "--nodes", program.MOST_NODES, "--solids", program.MOST_SOLIDS], main)
@@ -381,7 +381,7 @@ def run(arguments: argparse.Namespace) -> int:
         if not 1 <= arguments.take <= len(found):
             raise Refused(f"nothing is written, since there are {many(len(found), 'suggestion')}")
         if arguments.write and found[arguments.take - 1].placed.given:
-            raise Refused("a suggestion about a drawing with its rounds squared off isn't written: draw it on the sheet")
+            raise Refused("a suggestion about a squared-off drawing isn't written: draw it on the sheet")
         if arguments.write:
             write_result(written_with(found[arguments.take - 1], asked.origin), arguments.write)
         if arguments.picture:

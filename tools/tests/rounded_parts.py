@@ -56,12 +56,30 @@ def sunk(axis: int, plan: tuple[float, float], top: float, bottom: float, radius
     return cylinder(axis, plan, min(top, bottom), max(top, bottom), radius).fuse(cone(axis, plan, top, top + depth, wide, radius))
 
 
-def filleted(shape: Any, radius: float, axis: int, chosen: Callable[[Any], Any] = lambda point: True) -> Any:
-    """The shape with its edges along an axis rounded, all or those whose first point is chosen."""
+Chosen = Callable[[Any], Any]
+
+
+def edges_along(shape: Any, axis: int, chosen: Chosen) -> list[Any]:
+    """The edges along an axis, all or those whose first point is chosen."""
     others = [it for it in range(3) if it != axis]
-    edges = [edge for edge in shape.Edges if len(edge.Vertexes) == 2 and chosen(edge.Vertexes[0].Point)
-             and all(abs(edge.Vertexes[0].Point[it] - edge.Vertexes[1].Point[it]) < 1e-9 for it in others)]
-    return shape.makeFillet(radius, edges)
+    return [edge for edge in shape.Edges if len(edge.Vertexes) == 2 and chosen(edge.Vertexes[0].Point)
+            and all(abs(edge.Vertexes[0].Point[it] - edge.Vertexes[1].Point[it]) < 1e-9 for it in others)]
+
+
+def filleted(shape: Any, radius: float, axis: int, chosen: Chosen = lambda point: True) -> Any:
+    """The shape with its edges along an axis rounded."""
+    return shape.makeFillet(radius, edges_along(shape, axis, chosen))
+
+
+def chamfered(shape: Any, size: float, axis: int, chosen: Chosen = lambda point: True) -> Any:
+    """The shape with its edges along an axis cut off straight, as much of both sides."""
+    return shape.makeChamfer(size, edges_along(shape, axis, chosen))
+
+
+def prism(axis: int, corners: Iterable[tuple[float, float]], low: float, high: float) -> Any:
+    """A prism along an axis, by the places of its corners along the two other ones."""
+    places = [FreeCAD.Vector(*spot(axis, corner, low)) for corner in corners]
+    return Part.Face(Part.makePolygon([*places, places[0]])).extrude(AXES[axis] * (high - low))
 
 
 def obround(axis: int, one: tuple[float, float], other: tuple[float, float], low: float, high: float, radius: float) -> Any:

@@ -266,6 +266,13 @@ class Maker:
                 points = [(x + right, y + up) for x, y in (*ends, ends[0])]
                 doc.modelspace().add_lwpolyline(points, dxfattribs=by_linetype(view, dashed))
         yield self.save(doc, "polylines")
+        doc = new()
+        for view, strokes in self.views.items():
+            for dashed, ends in strokes:
+                right, up = self.places[view]
+                points = [(x + right, y + up) for x, y in (ends[0], tuple((a + b) / 2 for a, b in zip(*ends)), ends[1])]
+                doc.modelspace().add_open_spline(points, degree=2, dxfattribs=by_linetype(view, dashed))
+        yield self.save(doc, "straight_splines")
 
     # ---- where views stand
 

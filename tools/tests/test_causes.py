@@ -1,4 +1,5 @@
 """Each refusal of a sheet has its true cause, and what it advises gets further; frames are found; what is told is of the sheet itself."""
+import math
 import pathlib
 import re
 import tempfile
@@ -82,10 +83,14 @@ def zoned_frame(space: Any) -> None:
         box(space, (190 + 5 * number, 12, 193 + 5 * number, 20))
 
 
-def curved_top(space: Any) -> None:
+def rounded_ends(space: Any) -> None:
+    """TOP is two lines and two curves that close its outline at both ends: the lines alone are groups apart."""
     box(space, (0, 0, 6, 5))
-    space.add_circle((3, 13), 3, dxfattribs={"layer": "DISC"})
-    box(space, (10, 0, 16, 5))
+    box(space, (10, 0, 14, 5))
+    for start, end in (((1, 10), (5, 10)), ((1, 14), (5, 14))):
+        space.add_line(start, end)
+    for x, way in ((1, 2), (5, -2)):
+        space.add_ellipse((x, 12), (0, way), 0.5, 0, math.pi, dxfattribs={"layer": "ROUNDS"})
 
 
 def half(view: str, upright: bool) -> Callable[[Any], object]:
@@ -113,7 +118,8 @@ def in_front(add: Callable[[Any, float, float], object]) -> Callable[[Any], obje
 ROWS = (
     Row("round_closes_front", rounded("FRONT", 1, "ellipse"), refused=r"in FRONT a ELLIPSE \w+ on layer ROUNDS, line [\d,]+ of .* curves of this kind aren't "
         r"read; lines of the view end at it$"),
-    Row("round_closes_top", rounded("TOP", 1.5, "ellipse"), refused=r"in TOP a ELLIPSE \w+ on layer ROUNDS"),
+    Row("round_closes_top", rounded("TOP", 1.5, "ellipse"), refused=r"in TOP a ELLIPSE \w+ on layer ROUNDS.*; lines of the view end at it$"),
+    Row("rounds_close_top_at_both_ends", rounded_ends, refused=r"in TOP a ELLIPSE \w+ on layer ROUNDS.*; lines of the view end at it$"),
     Row("curve_on_a_layer_of_its_own", with_views(in_front(lambda space, x, y: space.add_ellipse((x + 3, y + 2), (0.7, 0), 0.5, dxfattribs={"layer": "HOLES"}))),
         refused="in FRONT a ELLIPSE .* leave it out by --leave-out layer=HOLES$"),
     Row("curve_left_out", with_views(in_front(lambda space, x, y: space.add_ellipse((x + 3, y + 2), (0.7, 0), 0.5, dxfattribs={"layer": "HOLES"}))),
@@ -162,23 +168,6 @@ class Causes(unittest.TestCase):
             return
         self.assertFalse(row.refused, said)
         self.assertRegex(" ".join(said), row.told)
-
-    def test_the_advice_gets_further(self) -> None:
-        """Of each refusal here that names an option, what follows it isn't refused for the same cause."""
-        for row in ROWS:
-            with tempfile.TemporaryDirectory() as folder:
-                file = self.made(row.draw, folder, row.name)
-                advised = re.search(r"--leave-out (layer=\w+|group=[\d,-]+)", self.refusal(file, row.words))
-                if row.refused and advised:
-                    with self.subTest(row.name):
-                        self.assertEqual(self.refusal(file, (*row.words, "--leave-out", advised[1])), "")
-
-    def refusal(self, file: pathlib.Path, words: Sequence[str]) -> str:
-        try:
-            sheet.draw(str(file), arguments("sheet", file, *words), lambda text: None)
-        except Refused as refusal:
-            return str(refusal)
-        return ""
 
     def test_pieces_of_views_that_touch_are_their_own(self) -> None:
         """A second export without hidden lines, of views named by layers that stand right beside one another."""

@@ -63,7 +63,7 @@ dialect colours | --hidden color=1 | =part
 two places | | =two
 two places | --angle third | =two
 two layers | | =two
-two out of line | | !fewer than three
+two out of line | | !fewer than three, and the two don't stand in line
 half FRONT | | !FRONT may be a half view
 half TOP | | !TOP may be a half view
 half SIDE | | !SIDE may be a half view

@@ -215,8 +215,6 @@ class Refusals(InAFolder):
         self.refused(plate, r"circle of radius 5.8 .* on layer THREADS\) ends at .*: it is a thread", thread)
         asked = self.asked("--leave-out", "layer=THREADS")
         self.exact(plate, asked)
-        block = box(0, 0, 0, 50, 40, 10)
-        self.refused(block.makeChamfer(3, [block.Edges[0]]), "it is oblique")
         self.refused(box(0, 0, 0, 50, 40, 30).cut(cylinder(2, (25, 20), 0, 30, 6)).cut(cylinder(0, (20, 15), 0, 50, 4)), "a SPLINE .* is no straight line")
 
     def test_too_many_circles(self) -> None:

@@ -2,7 +2,7 @@
 import pathlib
 import tempfile
 import unittest
-from collections.abc import Sequence
+from collections.abc import Callable, Sequence
 from fractions import Fraction
 from typing import Any, NamedTuple
 
@@ -21,7 +21,7 @@ except ImportError:
 
 class Row(NamedTuple):
     """A sheet of the clevis, drawn at a scale, with linear dimensions: of a view and along an axis, with these words and options of their
-    style; and what has to come: words that are told, or of a refusal."""
+    style, each of which may be changed; and what has to come: words that are told, or of a refusal."""
 
     name: str
     drawn: Fraction
@@ -32,11 +32,24 @@ class Row(NamedTuple):
     texts: Sequence[str] = ()
     unit: int = 4
     exploded: bool = False
+    change: Callable[[Any, Any], object] = lambda doc, dimension: None
 
 
 def all_four(*words: str, **style: Any) -> list[tuple[str, int, str, dict[str, Any]]]:
     places = [("FRONT", 0), ("FRONT", 1), ("TOP", 1), ("SIDE", 0)]
     return [(view, axis, text, style) for (view, axis), text in zip(places, words or ("<>",) * 4)]
+
+
+def factor_of_style(doc: Any, dimension: Any) -> None:
+    """The factor is that of the style in the file's table, and the dimension's block says nothing."""
+    doc.dimstyles.get(dimension.dxf.dimstyle).dxf.dimlfac = 2
+    dimension.dxf.discard("geometry")
+
+
+def measured(doc: Any, dimension: Any) -> None:
+    """What was measured is twice what the dimension spans, as where a view was shrunk without it."""
+    dimension.dxf.actual_measurement = 2 * dimension.get_measurement()
+    dimension.dxf.discard("geometry")
 
 
 HALF, ONE = Fraction(1, 2), Fraction(1)
@@ -50,6 +63,8 @@ ROWS = (
         r"line [\d,]+ of half_by_words.dxf, says '6' from .* a length of 3"),
     Row("half_by_words_said", HALF, all_four(*TRUE), ("--scale", "1:2"), "4 dimensions say the lengths that they span, at the scale 1:2"),
     Row("half_by_factor", HALF, all_four(dimlfac=2), refused="say --scale 1:2"),
+    Row("half_by_factor_of_style", HALF, all_four(), refused="say --scale 1:2", change=factor_of_style),
+    Row("half_by_what_was_measured", HALF, all_four(), refused="say --scale 1:2", change=measured),
     Row("half_by_a_text", HALF, all_four(*TRUE), told="lengths taken at the scale 1:2, which a text says and 4 dimensions too", texts=("SCALE 1:2",)),
     Row("half_and_another_text", HALF, all_four(*TRUE), refused="say --scale 1:2", texts=("SCALE 1:5",)),
     Row("wrong_scale_said", HALF, all_four(*TRUE), ("--scale", "2:1"), refused="4 times the lengths as taken by --scale 2:1.*say --scale 1:2"),
@@ -63,7 +78,8 @@ ROWS = (
     Row("one_alone_written_over", ONE, all_four("5.5"), refused="1 of 1 dimension says another length"),
     Row("one_alone_at_half", HALF, all_four("6"), refused="1 dimension says 2 times .*say --scale 1:2"),
     Row("all_differ", ONE, all_four("7", "8", "9", "2"), refused="4 of 4 dimensions say another length"),
-    Row("half_and_one_written_over", HALF, all_four("6", "4", "7", "4"), refused="3 dimensions say 2 times .* 1 say neither: say --scale 1:2, with --as-drawn"),
+    Row("half_and_one_written_over", HALF, all_four("6", "4", "7", "4"), refused="3 dimensions say 2 times .* 1 says neither: say --scale 1:2, with --as-drawn .* "
+        "beside DIMENSION"),
     Row("half_and_one_as_drawn", HALF, all_four("6", "4", "7", "4"), ("--scale", "1:2", "--as-drawn"), "1 of 4 dimensions says another"),
     Row("rounded_by_hand", ONE, all_four("6.2", "4", "4", "4"), refused="1 of 4"),
     Row("thirds_rounded", Fraction(1, 3), all_four("2", "1.3", "1.33", "1.333"), told="warning: 3 dimensions say a rounded length.*4 dimensions say the lengths"),
@@ -117,6 +133,7 @@ class Scales(unittest.TestCase):
             ends = [tuple(drawn * it for it in point) for point in (base, start, end)]
             made = space.add_linear_dim(*ends, angle=90 * axis, text=words, override={**sheets.DIMENSION, "dimtsz": 0, "dimblk": "", **style})
             made.render()
+            row.change(doc, made.dimension)
             if row.exploded:
                 made.dimension.explode()
         for number, text in enumerate(row.texts):

@@ -1,7 +1,5 @@
 """What scripts need of `draft solve` and `draft step`: statuses of their own, drawings of several files, standard input; and files of other
 kinds and dialects, which are read or named as what they are."""
-import csv
-import io
 import pathlib
 import tempfile
 import unittest
@@ -10,6 +8,7 @@ from drafting import sheet
 from drafting.messages import Refused
 
 from .support import EXAMPLES, draft, needs_command, needs_module, needs_program
+from .tables import made
 from .test_sheet import arguments
 
 try:
@@ -117,6 +116,20 @@ class Files(unittest.TestCase):
             self.assertEqual(ended.status, 0, ended.said)
             self.assertIn("6 by 4 by 4, volume 41,", ended.out)
 
+    @needs_program()
+    def test_a_fault_of_a_drawing_of_three_layers_is_the_programs(self) -> None:
+        """A coordinate that is no number: the program's own fault is told, with its line, and no sheet is looked for."""
+        lines = (EXAMPLES / "clevis.dxf").read_text().splitlines()
+        at = lines.index("10", lines.index("LINE")) + 1
+        lines[at] = "four"
+        with tempfile.TemporaryDirectory() as folder:
+            file = pathlib.Path(folder) / "spoiled.dxf"
+            file.write_text("\n".join(lines) + "\n")
+            ended = draft("solve", file)
+        self.assertEqual((ended.status, ended.out), (1, ""), ended.said)
+        self.assertIn(f"a coordinate is no number (fault F6 BadNumber line {at + 1} code 10)", ended.said)
+        self.assertNotIn("--as-is", ended.said)
+
     @unittest.skipUnless(LIBRARY.is_dir(), "apt-get install librecad-data")
     def test_sheets_of_librecad(self) -> None:
         """The views within each frame of LibreCAD's, and a symbol of its own library by itself."""
@@ -151,8 +164,8 @@ class Files(unittest.TestCase):
                 drawn = {view: [it for it in its if hidden or not it[0]] for view, its in part.items()}
                 sheets.draw(doc.modelspace(), drawn, sheets.places_of(part), lambda view, dashed: {}, scale=0.5)
                 doc.saveas(pathlib.Path(folder) / name)
-            ended = draft("table", "--csv", "--pairs", "--scale", "1:2", folder, seconds=900)
-        rows = {row["file"]: row for row in csv.DictReader(io.StringIO(ended.out))}
-        self.assertEqual({name: (row["status"], row["solids"]) for name, row in rows.items()}, {"one.dxf": ("0", "1"), "two.dxf": ("refused", "")}, ended)
-        self.assertIn("volume 41 mm³", rows["one.dxf"]["message"])
-        self.assertIn("two.visible.dxf isn't there", rows["two.dxf"]["message"])
+            ended = made("--pairs", "--scale", "1:2", folder)
+        self.assertEqual({name: (row["status"], row["solids"]) for name, row in ended.rows.items()},
+                         {"one.dxf": ("0", "1"), "two.dxf": ("refused", "")}, ended)
+        self.assertIn("volume 41 mm³", ended.rows["one.dxf"]["message"])
+        self.assertIn("two.visible.dxf isn't there", ended.rows["two.dxf"]["message"])

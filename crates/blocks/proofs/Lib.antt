@@ -1,1 +1,1 @@
-pub mod BlockRooms
+pub mod BlockComponents

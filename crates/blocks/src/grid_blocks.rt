@@ -1,17 +1,18 @@
 //! The blocks of a grid, from its virtual faces.
 //!
-//! The rooms from which blocks are made are numbered in 32 bits, since there may be one for each of
-//! 250,047 cells; only where there are few enough do they get the 16 bits of a block's number.
+//! The enclosed components of which blocks are made are numbered in 32 bits, since there may be one
+//! for each of 250,047 cells; only where there are few enough do they get the 16 bits of a block's
+//! number.
 
 ghost use Rattle.std.specs.Prelude.{◌≡◌, ◌≤◌, ℕ, IfOk, IsErrOf};
 ghost use Rattle.solid_model.specs.Blocks.{IsBlocksOf, HasTooManyBlocks};
 ghost use Rattle.solid_model.specs.Kept.{IsFaceMapOf};
-ghost use Rattle.solid_model.specs.Rooms.{IsEarlier};
+ghost use Rattle.solid_model.specs.WalledBoxes.{IsEarlier};
 ghost use Rattle.solid_model.specs.declared.fault.Fault.{Fault};
 ghost use Rattle.solid_model.specs.Limits.{most_blocks};
 ghost use Rattle.lemmas.specs.Lists.{Each};
 
-use flood::{Walls, rooms_of};
+use flood::{Walls, enclosed_components};
 use solid_model::{Axis, Blocks, FaceMap, Fault, Grid, Memory, PerAxis, Refused};
 use std::alloc::Global;
 
@@ -42,7 +43,7 @@ impl Walls for FaceWalls<'_> {
     }
 }
 
-/// A block's number, kept in less room.
+/// A block's number, kept in fewer bytes.
 fn short_number(number: Option<u32>) -> Option<u16>
     requires { IsEarlier most_blocks number }
     ensures { result ≡ number }
@@ -53,7 +54,7 @@ fn short_number(number: Option<u32>) -> Option<u16>
     }
 }
 
-/// The numbers of the blocks, kept in less room.
+/// The numbers of the blocks, kept in fewer bytes.
 fn short_numbers(alloc: Global, numbers: &[Option<u32>]) -> Result<Vec<Option<u16>>, Memory>
     requires { Each (IsEarlier most_blocks) numbers.now }
     ensures { IfOk result (λ short. short.items ≡ numbers.now) }
@@ -76,10 +77,12 @@ pub fn blocks_of(alloc: Global, grid: &Grid, faces: &FaceMap) -> Result<Blocks, 
     ensures many { (fault : Fault) → IsErrOf result (Refused.Fault fault)
         → (count : ℕ) × (fault ≡ Fault.TooManyBlocks count) × HasTooManyBlocks grid.now count }
 {
-    let rooms = rooms_of(alloc, &FaceWalls { grid, faces })?;
-    if rooms.count > MOST_BLOCKS {
-        return Err(Refused::Fault(Fault::TooManyBlocks { count: rooms.count }));
+    let enclosed = enclosed_components(alloc, &FaceWalls { grid, faces })?;
+    if enclosed.count > MOST_BLOCKS {
+        return Err(Refused::Fault(Fault::TooManyBlocks {
+            count: enclosed.count,
+        }));
     }
-    let numbers = short_numbers(alloc, rooms.numbers.as_slice())?;
-    Ok(Blocks::new(grid, numbers, rooms.count as u16))
+    let numbers = short_numbers(alloc, enclosed.numbers.as_slice())?;
+    Ok(Blocks::new(grid, numbers, enclosed.count as u16))
 }

@@ -21,7 +21,7 @@ use Rattle.solid_model.specs.Cells.{coordinate, placed, cell_before}
 use Rattle.solid_model.specs.Faces.{outward, place, is_boundary}
 use Rattle.solid_model.specs.Marks.{BoxMarks, is_marked}
 use Rattle.solid_model.specs.PerAxis.{numbers_of, numbered}
-use Rattle.solid_model.specs.Rooms.{Sizes, is_below, is_within, box_place, box_count}
+use Rattle.solid_model.specs.WalledBoxes.{Sizes, is_below, is_within, box_place, box_count}
 use Rattle.solid_model.specs.Rounds.{Spot}
 use Rattle.solid_model.proofs.BoxCells.{within-below}
 use Rattle.solid_model.proofs.BoxPlaces.{cell_of_box, cell_there}

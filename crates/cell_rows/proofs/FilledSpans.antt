@@ -16,7 +16,7 @@ use Rattle.solid_model.specs.Blocks.{BlockNumbers, block_at}
 use Rattle.solid_model.specs.Choices.{is_chosen, cells_of_choice}
 use Rattle.solid_model.specs.Marks.{is_marked}
 use Rattle.solid_model.specs.PerAxis.{numbers_of}
-use Rattle.solid_model.specs.Rooms.{is_within, box_place}
+use Rattle.solid_model.specs.WalledBoxes.{is_within, box_place}
 
 -- ---- spans one behind another
 

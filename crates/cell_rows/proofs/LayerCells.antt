@@ -15,7 +15,7 @@ use Rattle.solid_model.specs.Cells.{coordinate}
 use Rattle.solid_model.specs.Faces.{outward, right_axis, up_axis, place}
 use Rattle.solid_model.specs.Marks.{BoxMarks, is_marked}
 use Rattle.solid_model.specs.PerAxis.{numbers_of, cell_of, numbered}
-use Rattle.solid_model.specs.Rooms.{Sizes, is_below, is_within, box_place, box_count}
+use Rattle.solid_model.specs.WalledBoxes.{Sizes, is_below, is_within, box_place, box_count}
 use Rattle.solid_model.proofs.BoxCells.{place-below, within-below}
 use Rattle.solid_model.proofs.BoxPlaces.{cell_there}
 use Rattle.cell_rows.specs.Rows.{cell_numbered, stride_along, row_sizes, AreRows}

@@ -8,7 +8,7 @@ use Rattle.solid_model.specs.declared.per_axis.PerAxis.{PerAxis}
 use Rattle.lemmas.specs.Bits.{is_set}
 use Rattle.solid_model.specs.Marks.{BoxMarks}
 use Rattle.solid_model.specs.PerAxis.{numbers_of}
-use Rattle.solid_model.specs.Rooms.{Sizes, is_within, box_place, box_count}
+use Rattle.solid_model.specs.WalledBoxes.{Sizes, is_within, box_place, box_count}
 use Rattle.solid_model.proofs.BoxPlaces.{numbers_below, cell_of_place-within, cell_of_place-there}
 use Rattle.cell_rows.specs.Rows.{cell_numbered, row_sizes, AreRows, AreAllRows, values_by_rows, marks_by_rows}
 use Rattle.cell_rows.proofs.RowCells.{within_row}

@@ -9,7 +9,7 @@ use Rattle.solid_model.specs.declared.cell.Cell.{Cell}
 use Rattle.solid_model.specs.Cells.{coordinate, placed, cell_at}
 use Rattle.solid_model.specs.Marks.{BoxMarks, is_marked}
 use Rattle.solid_model.specs.PerAxis.{numbers_of, cell_of, numbered, AreFew}
-use Rattle.solid_model.specs.Rooms.{Sizes, is_below, is_within, box_place, box_count}
+use Rattle.solid_model.specs.WalledBoxes.{Sizes, is_below, is_within, box_place, box_count}
 use Rattle.solid_model.proofs.BoxCells.{place-below, within-below, below-within}
 use Rattle.solid_model.proofs.BoxPlaces.{below_number, one_cell, cell_there}
 use Rattle.lemmas.proofs.Pushed.{HoldsSoFar}

@@ -8,7 +8,7 @@ use Rattle.solid_model.specs.declared.cell.Axis.{Axis}
 use Rattle.solid_model.specs.Blocks.{BlockNumbers}
 use Rattle.solid_model.specs.Marks.{BoxMarks}
 use Rattle.solid_model.specs.PerAxis.{numbers_of, numbered}
-use Rattle.solid_model.specs.Rooms.{box_place, box_count}
+use Rattle.solid_model.specs.WalledBoxes.{box_place, box_count}
 use Rattle.solid_model.proofs.BoxPlaces.{cell_there}
 use Rattle.lemmas.proofs.Pushed.{HoldsSoFar}
 

@@ -9,7 +9,7 @@ use Rattle.lemmas.specs.Bits.{is_set}
 use Rattle.solid_model.specs.Cells.{cell_at}
 use Rattle.solid_model.specs.Marks.{BoxMarks, is_marked}
 use Rattle.solid_model.specs.PerAxis.{numbers_of, numbered}
-use Rattle.solid_model.specs.Rooms.{Sizes, is_within, box_place, box_count}
+use Rattle.solid_model.specs.WalledBoxes.{Sizes, is_within, box_place, box_count}
 
 -- the cell with another number along an axis
 abbrev pub cell_numbered : Axis → ℕ → PerAxis → Cell

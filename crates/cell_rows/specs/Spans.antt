@@ -12,7 +12,7 @@ use Rattle.solid_model.specs.Blocks.{BlockNumbers}
 use Rattle.solid_model.specs.Choices.{is_chosen, cells_of_choice}
 use Rattle.solid_model.specs.Marks.{BoxMarks}
 use Rattle.solid_model.specs.PerAxis.{numbers_of}
-use Rattle.solid_model.specs.Rooms.{is_within, box_place, box_count}
+use Rattle.solid_model.specs.WalledBoxes.{is_within, box_place, box_count}
 
 -- of the cells of a row, that of number k is one of a span whose block a choice fills
 abbrev pub is_filled : List Bool → List Span → ℕ → Bool

@@ -163,7 +163,7 @@ impl BlockRows<'_> {
     ghost use Rattle.std.specs.Prelude.{◌≡◌, length};
     ghost use Rattle.cell_rows.specs.Spans.{AreRowSpans};
     ghost use Rattle.solid_model.specs.PerAxis.{numbers_of};
-    ghost use Rattle.solid_model.specs.Rooms.{box_count};
+    ghost use Rattle.solid_model.specs.WalledBoxes.{box_count};
 
     /// The spans of all rows along an axis.
     pub fn along(&self, axis: Axis) -> &RowSpans

@@ -97,8 +97,7 @@ impl CellRows {
         ensures { IfOk result (λ rows. rows ≡ marks.now) }
     {
         let sizes = marks.sizes();
-        // A look at the values tells that there is one for each cell.
-        let _ = marks.values();
+        marks.known();
         let x = rows_along(alloc, marks, Axis::X)?;
         let y = rows_along(alloc, marks, Axis::Y)?;
         let z = rows_along(alloc, marks, Axis::Z)?;

@@ -21,7 +21,7 @@ use Rattle.solid_model.specs.Demands.{known_cell, coordinate_on, box_cell_in, li
 use Rattle.solid_model.specs.Draws.{Draws}
 use Rattle.solid_model.specs.Frames.{frame_of, along, across, cell_on, at_places}
 use Rattle.lemmas.specs.Lists.{Member}
-use Rattle.solid_model.specs.Rooms.{Sizes, is_within}
+use Rattle.solid_model.specs.WalledBoxes.{Sizes, is_within}
 use Rattle.solid_model.specs.Segments.{segment_at}
 use Rattle.solid_model.specs.GridBox.{grid_sizes}
 use Rattle.solid_model.proofs.BoxCells.{below-bounds, within-below}

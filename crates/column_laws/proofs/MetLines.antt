@@ -11,7 +11,7 @@ use Rattle.solid_model.specs.Blocks.{BlockNumbers, ProblemParts, block_at}
 use Rattle.solid_model.specs.Demands.{line_style, known_in, known_cell, coordinate_on, box_cell_in, known_column, known_after, known_before, CanBeMet, can_be_met}
 use Rattle.solid_model.specs.Frames.{IsFrame, frame_of, along, across}
 use Rattle.solid_model.specs.PerAxis.{numbers_of}
-use Rattle.solid_model.specs.Rooms.{Sizes, is_below, is_within, number_at}
+use Rattle.solid_model.specs.WalledBoxes.{Sizes, is_below, is_within, number_at}
 use Rattle.solid_model.specs.GridBox.{grid_sizes}
 use Rattle.solid_model.proofs.BoxCells.{below-bounds, within-below}
 use Rattle.column_laws.proofs.SettledColumns.{IsEmptyBeyond}

@@ -14,7 +14,7 @@ use Rattle.solid_model.specs.Demands.{coordinate_on, box_cell_in}
 use Rattle.solid_model.specs.Frames.{frame_of, across}
 use Rattle.solid_model.specs.Grid.{GridCell}
 use Rattle.solid_model.specs.Panels.{GridParts}
-use Rattle.solid_model.specs.Rooms.{Sizes, is_below, is_within, box_place, number_at}
+use Rattle.solid_model.specs.WalledBoxes.{Sizes, is_below, is_within, box_place, number_at}
 use Rattle.solid_model.specs.GridBox.{grid_sizes, axis_along, axis_across}
 use Rattle.solid_model.proofs.BoxCells.{within-below}
 use Rattle.solid_model.proofs.BoxPlaces.{within_box, place_there}

@@ -18,7 +18,7 @@ ghost use Rattle.column_laws.specs.GridPanels.{HasCounts, ArePanels, AreStylesAl
 use crate::grid_columns::view_columns;
 use crate::segment_styles::styles_along;
 use column_lanes::Column;
-use solid_model::{Axis, Grid, Memory, Panel, Panels, PerAxis, View};
+use solid_model::{Axis, Grid, Memory, Panel, Panels, PerAxis, PerView, View};
 use std::alloc::Global;
 use std::marker::Model;
 
@@ -104,7 +104,7 @@ pub fn draw_in(alloc: Global, counts: PerAxis, cells: &[bool]) -> Result<Panels,
     ensures { IfOk result (λ panels. ArePanels (numbers_of counts) cells.now panels) }
 {
     let columns = columns_in(alloc, counts, cells)?;
-    Ok(Panels {
+    Ok(PerView {
         front: panel(alloc, View::Front, counts, columns.view(View::Front))?,
         top: panel(alloc, View::Top, counts, columns.view(View::Top))?,
         side: panel(alloc, View::Side, counts, columns.view(View::Side))?,

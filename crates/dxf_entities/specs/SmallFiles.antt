@@ -5,6 +5,8 @@ use Rattle.solid_model.specs.declared.frame.View.TheVariants.{Front}
 use Rattle.solid_model.specs.declared.segment.Style.{Style}
 use Rattle.solid_model.specs.declared.segment.Style.TheVariants.{Solid}
 use Rattle.solid_model.specs.Line.{Line}
+use Rattle.dxf_entities.specs.declared.layer.Layer.{Layer}
+use Rattle.dxf_entities.specs.declared.layer_line.LayerLine.{LayerLine}
 use Rattle.dxf_groups.specs.Pairs.{TextPair, Pairs}
 use Rattle.dxf_groups.specs.SmallTexts.{pair_on}
 
@@ -74,6 +76,10 @@ unit_line n style =
 abbrev pub line_in : View → ℕ → Style → ℕ → ℕ → Line
 line_in v n style x y =
     record { of = v; style = style; x0 = pos 0; y0 = pos 0; x1 = pos x; y1 = pos y; number = n }
+
+-- the same on a layer of the view
+abbrev pub kept_on : Layer → ℕ → Style → ℕ → ℕ → LayerLine
+kept_on l n style x y = record { layer = l; line = line_in l.view n style x y }
 
 -- a line on each layer of a further view and one on FRONT, behind a table in which that of the rear is HIDDEN
 abbrev pub lines_of_further_views : Pairs

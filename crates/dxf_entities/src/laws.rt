@@ -14,7 +14,7 @@ ghost use Rattle.dxf_entities.specs.Apart.{apart_read, lines_read};
 ghost use Rattle.dxf_entities.specs.Forms.{six_views, three_views, with_sections};
 ghost use Rattle.dxf_entities.specs.Names.{cut_layer, further_layer, layer_on, main_layer};
 ghost use Rattle.dxf_entities.specs.Reading.{main_read, read_of};
-ghost use Rattle.dxf_entities.specs.SmallFiles.{line_from, section_at, end_of_section, hidden_layer, unit_line, file_of_polyline, vertex_at, line_to, line_in, lines_of_further_views, lines_of_sections, entity_on, oblique_on};
+ghost use Rattle.dxf_entities.specs.SmallFiles.{line_from, section_at, end_of_section, hidden_layer, unit_line, file_of_polyline, vertex_at, line_to, line_in, lines_of_further_views, kept_on, lines_of_sections, entity_on, oblique_on};
 
 /// Small files, written out by hand. A line on the layer FRONT is kept; without a linetype it takes
 /// its layer's from a table that stands before it, and not from one that stands after it. A pair
@@ -95,19 +95,19 @@ pub fn small_polylines()
 {}
 
 /// Small files that are read in six views, written out by hand. A line on a further view's layer is
-/// one of the view opposite to it, and has the linetype of its own layer; where three views are read,
-/// it is passed over. So is an arc there, which is a fault where six are.
+/// one of the view opposite to it, and has the linetype of its own layer; where three are read, it is
+/// passed over. So is an arc there, which is a fault where six are.
 pub fn small_files_of_six_views()
     ensures kept { apart_read (six_views 0) lines_of_further_views
         ≡ Ok (
           line_in Front 53 Solid 0 4 ∷ [],
-          (record { layer = further_layer Side; line = line_in Side 17 Solid 1 0 })
-              ∷ (record { layer = further_layer Front; line = line_in Front 35 Dashed 0 2 })
-              ∷ (record { layer = further_layer Top; line = line_in Top 71 Solid 3 0 }) ∷ [],
+          kept_on (further_layer Side) 17 Solid 1 0 ∷ kept_on (further_layer Front) 35 Dashed 0 2
+              ∷ kept_on (further_layer Top) 71 Solid 3 0 ∷ [],
         ) }
     ensures passed_over { main_read 0 lines_of_further_views
         ≡ Ok (line_in Front 53 Solid 0 4 ∷ []) }
-    ensures geometry { apart_read (six_views 0) (entity_on (codes "ARC") (codes "LEFT")) ≡ Err (Geometry 5) }
+    ensures geometry { apart_read (six_views 0) (entity_on (codes "ARC") (codes "LEFT"))
+        ≡ Err (Geometry 5) }
     ensures elsewhere { main_read 0 (entity_on (codes "ARC") (codes "LEFT")) ≡ Ok [] }
 {}
 
@@ -134,28 +134,30 @@ pub fn small_names_of_sections()
     ensures three { layer_on (three_views 0) (codes "SECTION_") ≡ Unread }
 {}
 
-/// Small files in which sections are read, written out by hand. Solid lines of sections and areas are
-/// kept, hidden ones passed over; a layer's own linetype counts, however its plane is spelled. An
-/// entity whose layer names no section is that fault before any other, but in paper space, where it
-/// is no geometry, or where sections aren't read.
+/// Small files in which sections are read, written out by hand. Solid lines of sections and areas
+/// are kept, hidden ones passed over; a layer's own linetype counts, however its plane is spelled.
+/// An entity whose layer names no section is that fault before any other, but in paper space, where
+/// it is no geometry, or where sections aren't read.
 pub fn small_files_of_sections()
     ensures kept { apart_read (with_sections 0) lines_of_sections
         ≡ Ok (
           line_in Front 17 Solid 0 4 ∷ [],
-          (record { layer = cut_layer (main_layer Front) (pos 1) false; line = line_in Front 35 Solid 1 0 })
-              ∷ (record { layer = cut_layer (main_layer Front) (pos 1) false; line = line_in Front 53 Solid 2 0 })
-              ∷ (record { layer = cut_layer (further_layer Side) (pos 3) true; line = line_in Side 71 Solid 0 2 }) ∷ [],
+          kept_on (cut_layer (main_layer Front) (pos 1) false) 35 Solid 1 0
+              ∷ kept_on (cut_layer (main_layer Front) (pos 1) false) 53 Solid 2 0
+              ∷ kept_on (cut_layer (further_layer Side) (pos 3) true) 71 Solid 0 2 ∷ [],
         ) }
     ensures passed_over { apart_read (six_views 0) lines_of_sections
         ≡ Ok (line_in Front 17 Solid 0 4 ∷ [], []) }
     ensures misnamed { apart_read (with_sections 0)
-        (oblique_on (codes "SECTION_A") (pair_on 9 (pos 6) (codes "DOTTED") ∷ [])) ≡ Err (SectionName 5) }
+        (oblique_on (codes "SECTION_A") (pair_on 9 (pos 6) (codes "DOTTED") ∷ []))
+        ≡ Err (SectionName 5) }
     ensures on_paper { apart_read (with_sections 0)
         (oblique_on (codes "SECTION_A") (pair_on 9 (pos 67) (codes "1") ∷ [])) ≡ Ok ([], []) }
     ensures unread { apart_read (six_views 0) (oblique_on (codes "SECTION_A") []) ≡ Ok ([], []) }
     ensures geometry { apart_read (with_sections 0) (entity_on (codes "ARC") (codes "AREA_A"))
         ≡ Err (SectionName 5) }
-    ensures text { apart_read (with_sections 0) (entity_on (codes "TEXT") (codes "AREA_A")) ≡ Ok ([], []) }
+    ensures text { apart_read (with_sections 0) (entity_on (codes "TEXT") (codes "AREA_A"))
+        ≡ Ok ([], []) }
     ensures arc { apart_read (with_sections 0) (entity_on (codes "ARC") (codes "AREA_TOP_1"))
         ≡ Err (Geometry 5) }
     ensures oblique { apart_read (with_sections 0) (oblique_on (codes "AREA_TOP_1") [])
@@ -176,7 +178,8 @@ pub fn three_views_have_no_further_line()
 /// Where six views are read, no line is one of a view that is cut.
 pub fn six_views_have_no_cut()
     ensures { (decimals : ℕ) (text : List ℕ) (ls : List Line) (more : List LayerLine)
-        → lines_read (six_views decimals) text ≡ Ok (ls, more) → Each (λ l. l.layer.cut ≡ None) more }
+        → lines_read (six_views decimals) text ≡ Ok (ls, more)
+        → Each (λ l. l.layer.cut ≡ None) more }
 {}
 
 /// Each line that is read of a text is level or upright, is drawn, and has coordinates of an

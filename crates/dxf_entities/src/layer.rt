@@ -3,16 +3,15 @@
 use solid_model::View;
 
 /// Where a view is cut: by a plane across its sight, at a coordinate on the sight axis from the
-/// part's least one. Of what the plane leaves, all that lies from it on along the sight is shown, or
-/// the area that it cuts.
+/// part's least one. Shown is all that lies from it on along the sight, or the area that it cuts.
 #[derive(Clone, Copy, Debug, PartialEq, Eq)]
 pub struct Cut {
     pub at: i64,
     pub area: bool,
 }
 
-/// What a layer shows: a view, from its own side or from the opposite one, whole or cut. REAR is the
-/// front view from the opposite side, BOTTOM the top view, LEFT the side view.
+/// What a layer shows: a view, from its own side or from the opposite one, whole or cut. REAR is
+/// the front view from the opposite side, BOTTOM the top view, LEFT the side view.
 #[derive(Clone, Copy, Debug, PartialEq, Eq)]
 pub struct Layer {
     pub view: View,

@@ -11,7 +11,7 @@ use Rattle.solid_model.specs.Grid.{Coordinates, is_in_gap, IsInSomeGap, gaps_alo
 use Rattle.face_laws.specs.GridFaces.{LiesInNumbered, AreCellsOf, face_in_space, coordinate_from, planes_at, grid_planes, numbered_fullness}
 use Rattle.face_laws.specs.GridRounds.{Rises}
 use Rattle.lemmas.specs.Lists.{Member, Ascends}
-use Rattle.solid_model.specs.Rooms.{is_below, is_within, box_place, place_of_number}
+use Rattle.solid_model.specs.WalledBoxes.{is_below, is_within, box_place, place_of_number}
 use Rattle.solid_model.specs.GridBox.{grid_cell_of}
 use Rattle.solid_model.proofs.BoxCells.{below-bounds, bounds-below, within-below, outside-below}
 use Rattle.face_laws.proofs.GridFaces.{faces_are_in_space}

@@ -7,7 +7,7 @@ use Rattle.solid_model.specs.declared.cell.Cell.{Cell}
 use Rattle.solid_model.specs.Cells.{coordinate}
 use Rattle.solid_model.specs.Faces.{outward, FaceParts}
 use Rattle.solid_model.specs.Grid.{Coordinates, gaps_along}
-use Rattle.solid_model.specs.Rooms.{is_within, box_place}
+use Rattle.solid_model.specs.WalledBoxes.{is_within, box_place}
 
 -- for each axis where the planes across it stand, by their numbers
 abbrev pub Planes : Type 0

@@ -3,7 +3,7 @@ use Rattle.std.proofs.Common.{◌≡◌, Bool, true, ℕ, suc, List, pos, ◌+�
 use Rattle.std.proofs.lemmas.Bool.{and_parts}
 use Rattle.std.proofs.lemmas.Int.{ints}
 use Rattle.lemmas.specs.Lists.{Member, Each}
-use Rattle.solid_model.specs.Rooms.{is_below}
+use Rattle.solid_model.specs.WalledBoxes.{is_below}
 use Rattle.solid_model.specs.Rounds.{Spot, Heading, East, North, West, South, Side, end_of, left_square, round_sides}
 use Rattle.face_laws.proofs.BoundarySquares.{border_left}
 use Rattle.solid_model.proofs.BoxCells.{below-bounds}

@@ -14,7 +14,7 @@ use Rattle.solid_model.specs.Cells.{coordinate}
 use Rattle.solid_model.specs.Faces.{outward, right_axis, up_axis, inner_cell, is_boundary}
 use Rattle.solid_model.specs.Marks.{BoxMarks, is_marked}
 use Rattle.solid_model.specs.PerAxis.{numbers_of}
-use Rattle.solid_model.specs.Rooms.{is_below, is_within, box_place, place_of_number}
+use Rattle.solid_model.specs.WalledBoxes.{is_below, is_within, box_place, place_of_number}
 use Rattle.solid_model.specs.Rounds.{Spot}
 use Rattle.solid_model.proofs.BoxCells.{below-bounds, below-more, place-below, within-below}
 use Rattle.face_laws.proofs.BoundarySquares.{inner_full}

@@ -8,7 +8,7 @@ use Rattle.std.proofs.lemmas.List.{get_or_past}
 use Rattle.std.proofs.lemmas.Nat.{mod_below, mod-mul-add, div-mul-add}
 use Rattle.std.proofs.lemmas.Nat.Bits.{bit_at-zero}
 use Rattle.lemmas.specs.Bits.{is_set}
-use Rattle.solid_model.specs.Rooms.{is_below}
+use Rattle.solid_model.specs.WalledBoxes.{is_below}
 use Rattle.solid_model.specs.Rounds.{Spot, Heading, East, North, West, South, left_of, square_at, is_border}
 use Rattle.solid_model.proofs.BoxPlaces.{below_number}
 use Rattle.lemmas.proofs.Pushed.{HoldsSoFar}

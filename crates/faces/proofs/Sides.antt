@@ -7,7 +7,7 @@ use Rattle.faces.specs.Border.{IsTablePoint, IsTableSpot, side_to}
 use Rattle.faces.specs.PlaneSquares.{SquareTable, is_there}
 use Rattle.faces.proofs.SquarePlaces.{there-parts}
 use Rattle.faces.specs.Points.{spot_of}
-use Rattle.solid_model.specs.Rooms.{is_below, place_of_number}
+use Rattle.solid_model.specs.WalledBoxes.{is_below, place_of_number}
 use Rattle.solid_model.specs.Rounds.{Spot, Heading, East, North, West, South, left_of, right_of, spot_after, square_at, Side, end_of, left_square, right_square, is_border, heading_after, following}
 use Rattle.solid_model.proofs.BoxPlaces.{IsNumber, number_below}
 use Rattle.face_laws.proofs.Turns.{same_spot, same_side, left_of_left, step_back, left_at_end, round, leaves, onward, following_border}

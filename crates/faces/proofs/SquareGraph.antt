@@ -5,7 +5,7 @@ use Rattle.std.proofs.lemmas.Option.{same_Some, none-some}
 use Rattle.cell_rows.proofs.BitPlaces.{bit_there}
 use Rattle.lemmas.specs.Bits.{bit_of}
 use Rattle.lemmas.specs.Chains.{Reaches}
-use Rattle.solid_model.specs.Rooms.{place_of_number}
+use Rattle.solid_model.specs.WalledBoxes.{place_of_number}
 use Rattle.solid_model.specs.Rounds.{Spot, spot_after, AreNeighbours, AreJoined}
 use Rattle.lemmas.proofs.Chains.{reaches-map, reaches-step}
 use Rattle.face_laws.proofs.JoinedSides.{neighbours-back}

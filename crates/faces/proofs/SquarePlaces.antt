@@ -6,7 +6,7 @@ use Rattle.std.proofs.lemmas.Nat.Bits.{bit_at-zero}
 use Rattle.std.proofs.lemmas.Nat.{mod-mul-add, div-mul-add, div-add-mod'}
 use Rattle.lemmas.specs.Bits.{is_set}
 use Rattle.lemmas.specs.Lists.{Member}
-use Rattle.solid_model.specs.Rooms.{is_below, place_of_number}
+use Rattle.solid_model.specs.WalledBoxes.{is_below, place_of_number}
 use Rattle.solid_model.specs.Rounds.{Spot}
 use Rattle.solid_model.proofs.BoxCells.{below-bounds}
 use Rattle.lemmas.proofs.Lists.{member-map}

@@ -9,7 +9,7 @@ use Rattle.faces.specs.Points.{spot_of}
 use Rattle.faces.specs.Ways.{heading_of, heading_number, heading_at}
 use Rattle.rounds.specs.Succession.{first}
 use Rattle.lemmas.specs.Bits.{bit_of}
-use Rattle.solid_model.specs.Rooms.{place_of_number}
+use Rattle.solid_model.specs.WalledBoxes.{place_of_number}
 use Rattle.solid_model.specs.Rounds.{Spot, Heading, left_of, spot_after, Side, end_of, left_square, is_border, following, corners}
 
 -- ---- points

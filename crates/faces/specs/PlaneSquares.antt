@@ -1,7 +1,7 @@
 -- Squares of a plane, kept in a table.
 use Rattle.std.specs.Prelude.{◌≡◌, Bool, false, ◌&&◌, ℕ, ◌+◌, ◌*◌, ◌≤◌, List, length, slice_index_or}
 use Rattle.lemmas.specs.Bits.{is_set}
-use Rattle.solid_model.specs.Rooms.{is_below, place_of_number}
+use Rattle.solid_model.specs.WalledBoxes.{is_below, place_of_number}
 use Rattle.solid_model.specs.Rounds.{Spot}
 
 -- rows of squares of a plane from (0, 0) to (63, 63): a number for each v, whose bit u stands for the square (u, v)

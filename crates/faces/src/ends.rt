@@ -22,8 +22,7 @@ fn ends_by_rows(alloc: Global, squares: &Squares) -> Result<Vec<u64>, Memory>
     ensures { IfOk result (λ ends. (length ends.items ≡ 64)
         × TellEnds squares.now true ends.items) }
 {
-    // A look at the rows tells that they are a table.
-    let _ = squares.rows();
+    squares.known();
     let mut ends = Vec::with_capacity(alloc, 64)?;
     let mut below = 0;
     for v in 0..64 {

@@ -11,7 +11,7 @@ ghost use Rattle.solid_model.specs.PerAxis.{numbers_of};
 use crate::counted::counted_faces;
 use crate::grid_points::put_faces;
 use cell_rows::CellRows;
-use solid_model::{Axis, Face, Grid, Marks, Memory};
+use solid_model::{Face, Grid, Marks, Memory};
 use std::alloc::Global;
 
 /// The faces of the union of the marked cells of a grid, in order: by outward side, then plane,
@@ -22,8 +22,7 @@ pub fn faces_of_rows(alloc: Global, grid: &Grid, rows: &CellRows) -> Result<Vec<
         → IsUnionOf (coordinates_of grid.now) rows.now.values full → AreFacesOf full faces.items) }
 {
     let mut faces = counted_faces(alloc, rows)?;
-    // A look at the grid tells that its coordinates are in order.
-    let _ = grid.coordinates(Axis::X);
+    grid.known();
     put_faces(grid, faces.as_mut_slice());
     Ok(faces)
 }

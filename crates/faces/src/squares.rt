@@ -40,6 +40,13 @@ impl Squares {
         Squares { rows }
     }
 
+    /// They are a table: there are few rows, and each is a word.
+    pub fn known(&self)
+        ensures { IsTable self.now }
+    {
+        let _ = &self.rows;
+    }
+
     /// The rows.
     pub fn rows(&self) -> &[u64]
         ensures same { result.now ≡ self.now.rows }
@@ -81,8 +88,7 @@ impl Squares {
         ensures u { result.u < 64 }
         ensures v { result.v < 63 }
     {
-        // A look at the rows tells that they are few.
-        let _ = self.rows();
+        self.known();
         Point {
             u: place % 64,
             v: place / 64,

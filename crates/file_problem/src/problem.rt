@@ -106,9 +106,9 @@ pub fn problem_of(alloc: Global, file: Vec<u8>, decimals: u8) -> Result<Problem,
     Ok(problem)
 }
 
-/// The same of a file whose six views are read, with its further views: of each the runs, shifted so
-/// that its least right and its least up coordinate are 0; `None` exactly where no line covers
-/// anything of it. The first fault of a line of any of the six layers is one of the file.
+/// The same of a file whose six views are read, with the further ones of which a line covers
+/// something: of each the runs, shifted so that its least right and its least up coordinate are 0.
+/// The first fault of a line of any of the six layers is one of the file.
 pub fn problem_of_six(
     alloc: Global,
     file: Vec<u8>,

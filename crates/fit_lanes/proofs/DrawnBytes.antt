@@ -8,7 +8,7 @@ use Rattle.cell_rows.specs.declared.span.Span.{Span}
 use Rattle.cell_rows.specs.Spans.{is_filled, AreFilled}
 use Rattle.solid_model.specs.Choices.{cells_of_choice}
 use Rattle.solid_model.specs.Columns.{ColumnsDraw}
-use Rattle.solid_model.specs.Rooms.{Sizes}
+use Rattle.solid_model.specs.WalledBoxes.{Sizes}
 use Rattle.solid_model.specs.declared.segment.Style.{Style}
 use Rattle.solid_model.specs.declared.segment.Style.TheVariants.{Blank, Dashed, Solid}
 use Rattle.solid_model.specs.declared.frame.Frame.{Frame}

@@ -20,7 +20,7 @@ use Rattle.solid_model.specs.Frames.{frame_of}
 use Rattle.solid_model.specs.GridPlaces.{place_in, number_on, grid_cell_in}
 use Rattle.solid_model.specs.Cells.{cell_at}
 use Rattle.solid_model.specs.PerAxis.{numbers_of, cell_of, numbered}
-use Rattle.solid_model.specs.Rooms.{Sizes, is_within, box_place, box_count}
+use Rattle.solid_model.specs.WalledBoxes.{Sizes, is_within, box_place, box_count}
 use Rattle.column_laws.specs.GridColumns.{grid_column}
 use Rattle.dxf_entities.specs.declared.layer.Layer.{Layer}
 use Rattle.six_views.specs.SightFrames.{opposite_frame, sight_frame}

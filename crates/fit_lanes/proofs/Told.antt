@@ -15,7 +15,7 @@ use Rattle.solid_model.specs.DrawnStyle.{solid_drawing}
 use Rattle.solid_model.specs.Moved.{BeginsAt}
 use Rattle.solid_model.specs.Segments.{along_of, across_of}
 use Rattle.solid_model.specs.Panels.{GridParts, coordinates_of, IsGrid}
-use Rattle.solid_model.specs.Rooms.{Sizes}
+use Rattle.solid_model.specs.WalledBoxes.{Sizes}
 use Rattle.solid_model.specs.Runs.{AreRuns, ViewRuns, runs_along}
 use Rattle.dxf_entities.specs.declared.layer.Layer.{Layer}
 use Rattle.six_views.specs.Fits.{ShowsMoved}

@@ -4,7 +4,7 @@ use Rattle.cell_rows.specs.declared.span.Span.{Span}
 use Rattle.cell_rows.specs.Spans.{is_filled}
 use Rattle.column_laws.specs.GridColumns.{grid_column}
 use Rattle.solid_model.specs.Choices.{cells_of_choice}
-use Rattle.solid_model.specs.Rooms.{Sizes}
+use Rattle.solid_model.specs.WalledBoxes.{Sizes}
 use Rattle.dxf_entities.specs.declared.layer.Layer.{Layer}
 use Rattle.six_views.specs.SightFrames.{sight_frame}
 

@@ -4,8 +4,8 @@ ghost use Rattle.std.specs.Prelude.{◌≡◌, IfOk, List, Bool};
 
 use crate::layer_test::{LayerTest, show_all, tests_of};
 use cell_rows::BlockRows;
-use choice_sieves::Sieve;
 use further_views::Further;
+use page_calls::Sieve;
 use solid_model::{Choice, Memory, Problem};
 use std::alloc::Global;
 use std::marker::Model;

@@ -119,11 +119,7 @@ pub fn tests_of<'a>(
 }
 
 /// Whether the solid that a choice fills shows all these layers. An `Err` is out of memory.
-pub fn show_all(
-    alloc: Global,
-    tests: &mut [LayerTest<'_>],
-    choice: &Choice,
-) -> Result<bool, Memory>
+pub fn show_all(alloc: Global, tests: &mut [LayerTest<'_>], choice: &Choice) -> Result<bool, Memory>
     ensures same { tests.new ≡ tests.old }
     ensures told { IfOk result (λ yes. IsTrue yes
         ↔ Each (λ layer. ShowsIn layer choice.now) tests.old) }

@@ -5,7 +5,7 @@ use Rattle.solid_model.specs.declared.cell.Axis.{Axis}
 use Rattle.solid_model.specs.declared.cell.Cell.{Cell}
 use Rattle.solid_model.specs.Cells.{cell_before}
 use Rattle.lemmas.specs.Chains.{Chain, Reaches}
-use Rattle.solid_model.specs.Rooms.{Sizes, is_within, Walls, Passes, LeadsOut}
+use Rattle.solid_model.specs.WalledBoxes.{Sizes, is_within, Walls, Passes, LeadsOut}
 use Rattle.lemmas.proofs.Chains.{reaches-itself, reaches-step, reaches-step_then, reaches-map, reaches-map_within}
 use Rattle.solid_model.proofs.Passages.{passes-past_fewer}
 use Rattle.flood.specs.Ring.{OwnWalls}

@@ -5,9 +5,9 @@ pub mod RingPlaces
 pub mod Outside
 pub mod RingChains
 pub mod LeadingOut
-pub mod RingRooms
+pub mod RingComponents
 pub mod RingPassages
-pub mod PassageRooms
+pub mod PassageComponents
 pub mod RowPulls
 pub mod RowFloods
 pub mod RowCells

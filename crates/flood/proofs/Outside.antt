@@ -7,7 +7,7 @@ use Rattle.solid_model.specs.declared.cell.Axis.TheVariants.{X, Y, Z}
 use Rattle.solid_model.specs.declared.cell.Cell.{Cell}
 use Rattle.solid_model.specs.Cells.{placed, cell_before}
 use Rattle.lemmas.specs.Chains.{Reaches}
-use Rattle.solid_model.specs.Rooms.{Sizes, is_below, is_within, Walls, Passes}
+use Rattle.solid_model.specs.WalledBoxes.{Sizes, is_below, is_within, Walls, Passes}
 use Rattle.lemmas.proofs.Chains.{reaches-then_step, reaches-onward}
 use Rattle.solid_model.proofs.InGrid.{before_placed}
 use Rattle.lemmas.proofs.Integers.{natural}

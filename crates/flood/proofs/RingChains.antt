@@ -8,7 +8,7 @@ use Rattle.solid_model.specs.declared.cell.Axis.TheVariants.{X, Y, Z}
 use Rattle.solid_model.specs.declared.cell.Cell.{Cell}
 use Rattle.solid_model.specs.Cells.{coordinate, placed, cell_before}
 use Rattle.lemmas.specs.Chains.{Reaches}
-use Rattle.solid_model.specs.Rooms.{Sizes, is_below, is_within, Walls, Passes}
+use Rattle.solid_model.specs.WalledBoxes.{Sizes, is_below, is_within, Walls, Passes}
 use Rattle.solid_model.proofs.BoxCells.{below-bounds, within-below}
 use Rattle.lemmas.proofs.Chains.{reaches-step, reaches-back, reaches-map}
 use Rattle.solid_model.proofs.Fullness.{same_coordinates}

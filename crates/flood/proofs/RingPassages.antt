@@ -7,7 +7,7 @@ use Rattle.solid_model.specs.declared.cell.Axis.{Axis}
 use Rattle.solid_model.specs.declared.cell.Axis.TheVariants.{X, Y, Z}
 use Rattle.solid_model.specs.declared.cell.Cell.{Cell}
 use Rattle.solid_model.specs.Cells.{coordinate, cell_before}
-use Rattle.solid_model.specs.Rooms.{Sizes, is_within, box_place, Walls}
+use Rattle.solid_model.specs.WalledBoxes.{Sizes, is_within, box_place, Walls}
 use Rattle.solid_model.proofs.InGrid.{placed_at}
 use Rattle.solid_model.proofs.BoxPlaces.{one_cell}
 use Rattle.lemmas.proofs.Pushed.{HoldsSoFar}

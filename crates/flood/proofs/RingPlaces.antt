@@ -6,7 +6,7 @@ use Rattle.solid_model.specs.declared.cell.Axis.TheVariants.{X, Y, Z}
 use Rattle.solid_model.specs.declared.cell.Cell.{Cell}
 use Rattle.solid_model.specs.Cells.{coordinate, placed, cell_before, cell_after}
 use Rattle.solid_model.specs.Orders.{ComesBefore}
-use Rattle.solid_model.specs.Rooms.{Sizes, is_below, is_within, place_of_number, box_place}
+use Rattle.solid_model.specs.WalledBoxes.{Sizes, is_below, is_within, place_of_number, box_place}
 use Rattle.solid_model.proofs.BoxCells.{below-bounds, bounds-below, within-below, below-within}
 use Rattle.solid_model.proofs.BoxPlaces.{cell_there, cell_of_place, cell_of_place-within, cell_of_place-there, cell_of_place-own, before_earlier, earlier_before}
 use Rattle.solid_model.proofs.CellOrder.{LiesBefore, before-lies, lies-before}

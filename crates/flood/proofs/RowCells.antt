@@ -8,7 +8,7 @@ use Rattle.std.proofs.lemmas.Nat.Bits.{bit_at-zero}
 use Rattle.solid_model.specs.declared.cell.Axis.TheVariants.{X, Y, Z}
 use Rattle.solid_model.specs.declared.cell.Cell.{Cell}
 use Rattle.solid_model.specs.Cells.{cell_at, cell_before}
-use Rattle.solid_model.specs.Rooms.{Sizes, is_below, is_within, place_of_number}
+use Rattle.solid_model.specs.WalledBoxes.{Sizes, is_below, is_within, place_of_number}
 use Rattle.solid_model.proofs.BoxCells.{place-below, within-below, below-bounds}
 use Rattle.solid_model.proofs.BoxPlaces.{within_box, number_below, row_there}
 use Rattle.lemmas.specs.Bits.{is_set}

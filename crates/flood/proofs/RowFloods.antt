@@ -4,7 +4,7 @@ use Rattle.std.proofs.lemmas.Bool.{false≢true, and_parts, and_from, or_left, o
 use Rattle.std.proofs.lemmas.List.{length-set, get_or-set_same, get_or-set_other}
 use Rattle.lemmas.specs.Bits.{is_set}
 use Rattle.lemmas.proofs.Chains.{reaches-itself, reaches-step, reaches-onward}
-use Rattle.flood.specs.RowFlood.{RowParts, has_cell, IsOpenNext, Joins, IsReached, leads_across, leads_along, is_pulled, IsClosedRow, AreClosedRows, AreClosedBut, room, RowsGrow, Pulls}
+use Rattle.flood.specs.RowFlood.{RowParts, has_cell, IsOpenNext, Joins, IsReached, leads_across, leads_along, is_pulled, IsClosedRow, AreClosedRows, AreClosedBut, unreached, RowsGrow, Pulls}
 
 module _ (w : RowParts) (rows : List ℕ) where
   one_step : (p q : ℕ × ℕ) → IsTrue (has_cell rows p.0 p.1) → Joins w p q → IsReached w rows q
@@ -95,19 +95,19 @@ module _ (w : RowParts) (rows : List ℕ) where
   back_pulled p q (inr (inr (e, way))) has =
       by_across p.0 p.1 (or_right _ _ (back w.behind w.layer p (ap (λ t. has_cell w.behind t.0 t.1) (sym e) ∙ way) (ap (λ t. has_cell rows t.0 t.1) (sym e) ∙ has)))
 
--- ---- room
+-- ---- what is unreached
 
 -- a word that isn't smaller takes none more,
-room_kept : (rows : List ℕ) (r word : ℕ) → get_or rows r 0 ≤ word → room (set rows r word) ≤ room rows
-room_kept [] r word l = omega arith
-room_kept (n ∷ rows) zero word l = omega arith
-room_kept (n ∷ rows) (suc r) word l = let rest = room_kept rows r word l in omega arith
+unreached_kept : (rows : List ℕ) (r word : ℕ) → get_or rows r 0 ≤ word → unreached (set rows r word) ≤ unreached rows
+unreached_kept [] r word l = omega arith
+unreached_kept (n ∷ rows) zero word l = omega arith
+unreached_kept (n ∷ rows) (suc r) word l = let rest = unreached_kept rows r word l in omega arith
 
 -- and a greater one leaves less
-room_less : (rows : List ℕ) (r word : ℕ) → r < length rows → get_or rows r 0 < word → word < 2 ^ 64 → room (set rows r word) < room rows
-room_less [] r word within l fits = absurd (omega arith)
-room_less (n ∷ rows) zero word within l fits = omega arith
-room_less (n ∷ rows) (suc r) word within l fits = let rest = room_less rows r word (omega arith) l fits in omega arith
+unreached_less : (rows : List ℕ) (r word : ℕ) → r < length rows → get_or rows r 0 < word → word < 2 ^ 64 → unreached (set rows r word) < unreached rows
+unreached_less [] r word within l fits = absurd (omega arith)
+unreached_less (n ∷ rows) zero word within l fits = omega arith
+unreached_less (n ∷ rows) (suc r) word within l fits = let rest = unreached_less rows r word (omega arith) l fits in omega arith
 
 -- ---- growth
 
@@ -117,7 +117,7 @@ module _ (w : RowParts) where
     size = refl;
     kept = λ r k h. h;
     reached = λ r k h. ((r, k), h, reaches-itself (Joins w) (r, k));
-    room = omega arith;
+    unreached = omega arith;
   }
 
   pub grows_then : (a b c : List ℕ) → RowsGrow w a b → RowsGrow w b c → RowsGrow w a c
@@ -128,7 +128,7 @@ module _ (w : RowParts) where
         let late = then.reached r k h in
         let early = first.reached late.0.0 late.0.1 late.1 in
         (early.0, early.1, reaches-onward (Joins w) early.0 late.0 (r, k) early.2 late.2);
-    room = let l = first.room in let m = then.room in omega arith;
+    unreached = let l = first.unreached in let m = then.unreached in omega arith;
   }
 
   -- a row with the cells to which one step leads
@@ -144,7 +144,7 @@ module _ (w : RowParts) where
       | inl e ↦ subst (λ t. IsReached w rows (t, k)) (sym e) (pulled_reached w rows r k (sym (here s k e) ∙ h))
       | inr apart ↦ ((s, k), sym (there s k apart) ∙ h, reaches-itself (Joins w) (s, k))
     ];
-    room = room_kept rows r word more;
+    unreached = unreached_kept rows r word more;
   }
     where
       here : (s k : ℕ) → s ≡ r → has_cell (set rows r word) s k ≡ is_pulled w rows r k
@@ -171,7 +171,7 @@ module _ (w : RowParts) where
     others = λ s apart. get_or-set_other rows r s word 0 apart;
     same = λ e. absurd (false≢true (sym e));
     closed = λ e. absurd (false≢true (sym e));
-    more = λ _. room_less rows r word within (omega (arith, more, other)) fits;
+    more = λ _. unreached_less rows r word within (omega (arith, more, other)) fits;
   }
 
   -- ---- rows that are closed

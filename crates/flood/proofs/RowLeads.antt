@@ -7,7 +7,7 @@ use Rattle.solid_model.specs.declared.cell.Axis.TheVariants.{X, Y, Z}
 use Rattle.solid_model.specs.declared.cell.Cell.{Cell}
 use Rattle.solid_model.specs.Cells.{cell_before, cell_after}
 use Rattle.solid_model.specs.Marks.{BoxMarks, AreMarksOf}
-use Rattle.solid_model.specs.Rooms.{Sizes, is_within, place_of_number, Walls, Passes, LeadsOut}
+use Rattle.solid_model.specs.WalledBoxes.{Sizes, is_within, place_of_number, Walls, Passes, LeadsOut}
 use Rattle.solid_model.proofs.BoxCells.{place-below, within-below}
 use Rattle.solid_model.proofs.InGrid.{before_after}
 use Rattle.lemmas.specs.Chains.{Chain}

@@ -5,7 +5,7 @@ use Rattle.solid_model.specs.declared.cell.Axis.{Axis}
 use Rattle.solid_model.specs.declared.cell.Axis.TheVariants.{X, Y, Z}
 use Rattle.solid_model.specs.declared.cell.Cell.{Cell}
 use Rattle.solid_model.specs.Cells.{coordinate, cell_before}
-use Rattle.solid_model.specs.Rooms.{Sizes, box_place, box_count, is_within, Walls, Passes, number_at}
+use Rattle.solid_model.specs.WalledBoxes.{Sizes, box_place, box_count, is_within, Walls, Passes, number_at}
 use Rattle.flood.specs.declared.cell_bars.CellBars.{CellBars}
 use Rattle.flood.specs.Passages.{PassageParts, no_bars, bar_along}
 
@@ -65,10 +65,11 @@ pub record RingStep (sizes : Sizes) (wall : Walls) (p q : ℕ) : Type 0 where
   pub to : q < ring_count sizes
   pub passes : Passes (OwnWalls sizes wall) (ring_cell sizes p) (ring_cell sizes q)
 
--- The room of a component's nodes. The first component is that of the ring, and of all that leads out: it is no room.
-abbrev pub room_of : ℕ → Option ℕ
-room_of zero = None
-room_of (suc k) = Some k
+-- A component's number among the enclosed ones. The first component is that of the ring, and of all that leads out: it isn't
+-- enclosed.
+abbrev pub enclosed_of : ℕ → Option ℕ
+enclosed_of zero = None
+enclosed_of (suc k) = Some k
 
 -- what bars the way back from a cell along an axis: nothing of the ring comes before it, or a wall of the box does
 abbrev pub has_bar_before : Sizes → (Axis → Cell → Bool) → Axis → Cell → Bool
@@ -88,7 +89,7 @@ pub record ArePassages (sizes : Sizes) (stands : Axis → Cell → Bool) (g : Pa
   pub strides : g.strides ≡ ring_stride sizes
   pub bars : AreAllBars sizes stands g.bars
 
--- the numbers of the rooms of a box's cells, where each node of the ringed box is in a component
-pub record AreRoomNumbers (sizes : Sizes) (component : ℕ → ℕ) (rooms : List (Option ℕ)) : Type 0 where
-  pub listed : length rooms ≡ box_count sizes
-  pub each : (n : Cell) → IsTrue (is_within sizes n) → number_at sizes rooms n ≡ room_of (component (ring_place sizes n))
+-- the numbers of the enclosed components of a box's cells, where each node of the ringed box is in a component
+pub record AreEnclosedNumbers (sizes : Sizes) (component : ℕ → ℕ) (enclosed : List (Option ℕ)) : Type 0 where
+  pub listed : length enclosed ≡ box_count sizes
+  pub each : (n : Cell) → IsTrue (is_within sizes n) → number_at sizes enclosed n ≡ enclosed_of (component (ring_place sizes n))

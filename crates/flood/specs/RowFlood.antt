@@ -61,16 +61,16 @@ abbrev pub IsClosedRow : RowParts → List ℕ → ℕ → Type 0
 IsClosedRow w rows r = (k : ℕ) → IsTrue (is_pulled w rows r k) → IsTrue (has_cell rows r k)
 
 -- how far words are from being full
-abbrev pub room : List ℕ → ℕ
-room [] = 0
-room (word ∷ rows) = (2 ^ 64 - word) + room rows
+abbrev pub unreached : List ℕ → ℕ
+unreached [] = 0
+unreached (word ∷ rows) = (2 ^ 64 - word) + unreached rows
 
 -- The cells before are among those after, and a chain of steps leads to each of these from one of those; words are no less full.
 pub record RowsGrow (w : RowParts) (before after : List ℕ) : Type 0 where
   pub size : length after ≡ length before
   pub kept : (r k : ℕ) → IsTrue (has_cell before r k) → IsTrue (has_cell after r k)
   pub reached : (r k : ℕ) → IsTrue (has_cell after r k) → IsReached w before (r, k)
-  pub room : room after ≤ room before
+  pub unreached : unreached after ≤ unreached before
 
 -- nothing has grown, and no step leads to further cells of this row; or it has, and no other one
 pub record Pulls (w : RowParts) (r : ℕ) (before after : List ℕ) (grown : Bool) : Type 0 where
@@ -78,7 +78,7 @@ pub record Pulls (w : RowParts) (r : ℕ) (before after : List ℕ) (grown : Boo
   pub others : (s : ℕ) → s ≢ r → slice_index_or after s 0 ≡ slice_index_or before s 0
   pub same : grown ≡ false → after ≡ before
   pub closed : grown ≡ false → IsClosedRow w before r
-  pub more : grown ≡ true → room after < room before
+  pub more : grown ≡ true → unreached after < unreached before
 
 -- no step leads to further cells of so many first rows
 abbrev pub AreClosedRows : RowParts → List ℕ → ℕ → Type 0

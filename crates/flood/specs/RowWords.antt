@@ -4,7 +4,7 @@ use Rattle.solid_model.specs.declared.cell.Axis.{Axis}
 use Rattle.solid_model.specs.declared.cell.Axis.TheVariants.{X, Y, Z}
 use Rattle.solid_model.specs.declared.cell.Cell.{Cell}
 use Rattle.solid_model.specs.Cells.{cell_at, cell_before, cell_after}
-use Rattle.solid_model.specs.Rooms.{Sizes, is_within, place_of_number}
+use Rattle.solid_model.specs.WalledBoxes.{Sizes, is_within, place_of_number}
 use Rattle.flood.specs.declared.row_words.Told.{Told}
 use Rattle.flood.specs.declared.row_words.Told.TheVariants.{OpensBack, LeadsOut}
 use Rattle.flood.specs.RowFlood.{has_cell}

@@ -5,7 +5,7 @@ ghost use Rattle.flood.specs.RowWords.{is_in_rows};
 ghost use Rattle.solid_model.specs.declared.cell.Axis.TheVariants.{X};
 ghost use Rattle.solid_model.specs.Marks.{AreMarksOf};
 ghost use Rattle.solid_model.specs.PerAxis.{numbers_of, cell_of};
-ghost use Rattle.solid_model.specs.Rooms.{is_within, LeadsOut};
+ghost use Rattle.solid_model.specs.WalledBoxes.{is_within, LeadsOut};
 
 use crate::row_flood::{RowWays, flood_rows};
 use crate::row_words::{Told, row_words};

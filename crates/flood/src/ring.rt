@@ -5,7 +5,7 @@ ghost use Rattle.flood.specs.Passages.{parts_of};
 ghost use Rattle.flood.specs.Ring.{ringed, inner, outer, touches_box, has_bar_before, AreBarsBefore, AreAllBars, ArePassages};
 ghost use Rattle.solid_model.specs.declared.cell.Axis.{Axis};
 ghost use Rattle.solid_model.specs.PerAxis.{numbers_of, cell_of, AreFew};
-ghost use Rattle.solid_model.specs.Rooms.{Sizes, is_within};
+ghost use Rattle.solid_model.specs.WalledBoxes.{Sizes, is_within};
 
 use crate::cell_bars::CellBars;
 use crate::passages::Passages;

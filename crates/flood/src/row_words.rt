@@ -7,7 +7,7 @@ ghost use Rattle.lemmas.specs.Bits.{is_set};
 ghost use Rattle.solid_model.specs.Cells.{cell_before, cell_after};
 ghost use Rattle.solid_model.specs.declared.cell.Axis.TheVariants.{X};
 ghost use Rattle.solid_model.specs.PerAxis.{numbers_of, cell_of, AreFew};
-ghost use Rattle.solid_model.specs.Rooms.{is_within};
+ghost use Rattle.solid_model.specs.WalledBoxes.{is_within};
 
 use crate::walls::Walls;
 use solid_model::{Axis, Memory, PerAxis};
@@ -127,8 +127,8 @@ fn row_word<W: Walls>(walls: &W, sizes: PerAxis, told: Told, cell: PerAxis) -> u
     word
 }
 
-/// The words of all rows, z slowest. An `Err` is out of memory.
-// Each call has a question of its own, which it doesn't ask anew at each cell.
+/// The words of all rows, z slowest. An `Err` is out of memory. It is inlined, since each call has a
+/// question of its own, which it doesn't ask anew at each cell then.
 #[inline(always)]
 pub fn row_words<W: Walls>(alloc: Global, walls: &W, told: Told) -> Result<Vec<u64>, Memory>
     requires word { W.sizes walls.now X ≤ 64 }

@@ -9,7 +9,7 @@ pub trait Walls {
     ghost use Rattle.solid_model.specs.declared.cell.Axis.{Axis};
     ghost use Rattle.solid_model.specs.declared.cell.Cell.{Cell};
     ghost use Rattle.solid_model.specs.PerAxis.{numbers_of, cell_of};
-    ghost use Rattle.solid_model.specs.Rooms.{Sizes, face_sizes, is_within};
+    ghost use Rattle.solid_model.specs.WalledBoxes.{Sizes, face_sizes, is_within};
 
     /// How many cells stand in a row along each axis.
     ghost sizes: { Self → Sizes };

@@ -61,11 +61,7 @@ fn lines_of(alloc: Global, lines: &[LayerLine], layer: Layer) -> Result<Vec<Shee
 }
 
 /// The runs of a layer; `None` exactly where no line covers anything of it.
-fn layer_view(
-    alloc: Global,
-    lines: &[LayerLine],
-    layer: Layer,
-) -> Result<Option<ViewLines>, Memory>
+fn layer_view(alloc: Global, lines: &[LayerLine], layer: Layer) -> Result<Option<ViewLines>, Memory>
     ensures drawn { IfOk result (λ shown. IfSome shown (λ runs. (g : Segment)
         → g.view ≡ layer.view
         → view_style runs g ≡ drawing_of (further_lines lines.now layer) g)) }
@@ -87,7 +83,10 @@ pub fn further_of(alloc: Global, lines: &[LayerLine]) -> Result<Further, Memory>
     let mut views = Vec::new(alloc);
     for layer in layers.as_slice() {
         if let Some(runs) = layer_view(alloc, lines, *layer)? {
-            views.push(AskedView { layer: *layer, lines: runs })?;
+            views.push(AskedView {
+                layer: *layer,
+                lines: runs,
+            })?;
         }
     }
     Ok(Further::new(views))

@@ -9,7 +9,7 @@ ghost use Rattle.grid.specs.AxisCoordinates.{coordinates_in};
 ghost use Rattle.grid.specs.Positions.{begins_by};
 
 use crate::coordinates::Coordinates;
-use solid_model::{Drawing, Panel, Panels, Run, Runs, Style, View};
+use solid_model::{Drawing, Panel, Panels, PerView, Run, Runs, Style, View};
 use std::alloc::{AllocError, Global};
 
 /// The run lies on an earlier line, or begins no later than the place on this one.
@@ -125,7 +125,7 @@ pub fn panels_of(
 ) -> Result<Panels, AllocError>
     ensures { IfOk result (AreGridStyles (style_in drawing.now) (coordinates_in coordinates.now)) }
 {
-    Ok(Panels {
+    Ok(PerView {
         front: panel_of(alloc, drawing, coordinates, View::Front)?,
         top: panel_of(alloc, drawing, coordinates, View::Top)?,
         side: panel_of(alloc, drawing, coordinates, View::Side)?,

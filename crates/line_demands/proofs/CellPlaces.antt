@@ -15,7 +15,7 @@ use Rattle.solid_model.specs.declared.frame.View.TheVariants.{Front, Top, Side}
 use Rattle.solid_model.specs.Blocks.{ProblemParts, block_at}
 use Rattle.solid_model.specs.Frames.{frame_of}
 use Rattle.solid_model.specs.PerAxis.{numbers_of}
-use Rattle.solid_model.specs.Rooms.{Sizes, is_within, box_place, number_at}
+use Rattle.solid_model.specs.WalledBoxes.{Sizes, is_within, box_place, number_at}
 use Rattle.solid_model.specs.GridBox.{grid_sizes}
 
 -- the place of a cell, as a sum

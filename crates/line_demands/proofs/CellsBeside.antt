@@ -12,7 +12,7 @@ use Rattle.solid_model.specs.Demands.{box_cell_in}
 use Rattle.solid_model.specs.Forcing.{place_beside, cell_beside}
 use Rattle.solid_model.specs.Frames.{frame_of}
 use Rattle.solid_model.specs.PerAxis.{numbers_of}
-use Rattle.solid_model.specs.Rooms.{Sizes, is_within, is_below, number_at}
+use Rattle.solid_model.specs.WalledBoxes.{Sizes, is_within, is_below, number_at}
 use Rattle.solid_model.specs.GridBox.{grid_sizes, axis_along, axis_across}
 
 module _ (p : ProblemParts) (blocks : IsBlocksOf p.grid p.blocks) (l : LineId) where

@@ -12,7 +12,7 @@ use Rattle.solid_model.specs.declared.frame.View.TheVariants.{Front, Top, Side}
 use Rattle.solid_model.specs.declared.line_id.LineId.{LineId}
 use Rattle.solid_model.specs.Demands.{has_line}
 use Rattle.solid_model.specs.Panels.{GridParts}
-use Rattle.solid_model.specs.Rooms.{Sizes}
+use Rattle.solid_model.specs.WalledBoxes.{Sizes}
 use Rattle.solid_model.specs.Wire.{is_drawn_view}
 use Rattle.solid_model.specs.GridBox.{grid_sizes, axis_along, axis_across}
 

@@ -22,7 +22,7 @@ use Rattle.solid_model.specs.Blocks.{ProblemParts, IsBlocksOf}
 use Rattle.solid_model.specs.Demands.{known_in}
 use Rattle.solid_model.specs.Frames.{frame_of}
 use Rattle.solid_model.specs.PerAxis.{numbers_of}
-use Rattle.solid_model.specs.Rooms.{is_within, is_below, number_at}
+use Rattle.solid_model.specs.WalledBoxes.{is_within, is_below, number_at}
 use Rattle.solid_model.specs.GridBox.{grid_sizes, axis_along, axis_across}
 
 clear : (k : ℕ) → is_set 0 k ≡ false

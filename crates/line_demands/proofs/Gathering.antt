@@ -17,7 +17,7 @@ use Rattle.line_demands.proofs.MarkedLines.{last_there, last_other}
 use Rattle.solid_model.specs.declared.cell.Cell.{Cell}
 use Rattle.solid_model.specs.Blocks.{ProblemParts, IsBlocksOf, block_at}
 use Rattle.solid_model.specs.PerAxis.{numbers_of}
-use Rattle.solid_model.specs.Rooms.{is_within, number_at}
+use Rattle.solid_model.specs.WalledBoxes.{is_within, number_at}
 use Rattle.solid_model.specs.GridBox.{grid_sizes}
 
 -- ---- lists

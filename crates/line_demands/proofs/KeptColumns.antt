@@ -25,7 +25,7 @@ use Rattle.solid_model.specs.Blocks.{ProblemParts, block_at}
 use Rattle.solid_model.specs.Demands.{box_cell_in, known_in, known_cell, known_column, known_after, known_before, line_style, CanDraw, CanBeMet}
 use Rattle.solid_model.specs.Frames.{frame_of}
 use Rattle.solid_model.specs.PerAxis.{numbers_of}
-use Rattle.solid_model.specs.Rooms.{Sizes, is_below, is_within, number_at}
+use Rattle.solid_model.specs.WalledBoxes.{Sizes, is_below, is_within, number_at}
 use Rattle.solid_model.specs.GridBox.{grid_sizes, axis_along, axis_across}
 use Rattle.lemmas.specs.Counts.{times_listed}
 

@@ -29,7 +29,7 @@ use Rattle.line_demands.proofs.KeptColumns.{side_met}
 use Rattle.solid_model.specs.declared.frame.View.{View}
 use Rattle.solid_model.specs.declared.frame.View.TheVariants.{Front, Top, Side}
 use Rattle.solid_model.specs.Blocks.{ProblemParts, IsBlocksOf}
-use Rattle.solid_model.specs.Rooms.{Sizes}
+use Rattle.solid_model.specs.WalledBoxes.{Sizes}
 use Rattle.solid_model.specs.GridBox.{grid_sizes}
 use Rattle.lemmas.specs.Counts.{times_listed}
 

@@ -22,7 +22,7 @@ use Rattle.solid_model.specs.declared.line_id.LineId.{LineId}
 use Rattle.solid_model.specs.Blocks.{ProblemParts, IsBlocksOf, block_at}
 use Rattle.solid_model.specs.Demands.{box_cell_in}
 use Rattle.solid_model.specs.Frames.{frame_of}
-use Rattle.solid_model.specs.Rooms.{is_below}
+use Rattle.solid_model.specs.WalledBoxes.{is_below}
 use Rattle.solid_model.specs.GridBox.{grid_sizes, axis_along, axis_across}
 use Rattle.lemmas.specs.Counts.{one_if, times_listed}
 

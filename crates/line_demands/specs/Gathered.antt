@@ -20,7 +20,7 @@ use Rattle.solid_model.specs.declared.line_id.LineId.{LineId}
 use Rattle.lemmas.specs.Bits.{is_set}
 use Rattle.lemmas.specs.Counts.{times_listed}
 use Rattle.solid_model.specs.Blocks.{ProblemParts, block_at}
-use Rattle.solid_model.specs.Rooms.{Sizes}
+use Rattle.solid_model.specs.WalledBoxes.{Sizes}
 use Rattle.solid_model.specs.GridBox.{grid_sizes}
 
 -- where a column of a view stands, by its place among them

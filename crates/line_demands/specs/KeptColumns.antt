@@ -14,7 +14,7 @@ use Rattle.solid_model.specs.declared.frame.View.TheVariants.{Front, Top, Side}
 use Rattle.solid_model.specs.declared.line_id.LineId.{LineId}
 use Rattle.solid_model.specs.Blocks.{ProblemParts, block_at}
 use Rattle.solid_model.specs.Demands.{known_cell, line_style, lines_of, CanBeMet}
-use Rattle.solid_model.specs.Rooms.{Sizes, is_below}
+use Rattle.solid_model.specs.WalledBoxes.{Sizes, is_below}
 use Rattle.solid_model.specs.GridBox.{grid_sizes, axis_along, axis_across}
 use Rattle.lemmas.specs.Counts.{times_listed}
 

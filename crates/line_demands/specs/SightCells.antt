@@ -4,7 +4,7 @@ use Rattle.line_demands.specs.declared.gather.ColumnPlace.{ColumnPlace}
 use Rattle.line_demands.specs.declared.sight.ColumnCells.{ColumnCells}
 use Rattle.line_demands.specs.Sight.{first_place, step_away}
 use Rattle.solid_model.specs.Frames.{frame_of}
-use Rattle.solid_model.specs.Rooms.{Sizes}
+use Rattle.solid_model.specs.WalledBoxes.{Sizes}
 
 -- those of the column that stands there
 pub record AreColumnCells (sizes : Sizes) (at : ColumnPlace) (cells : ColumnCells) : Type 0 where

@@ -7,7 +7,7 @@ use Rattle.solid_model.specs.declared.line_id.LineId.{LineId}
 use Rattle.solid_model.specs.Blocks.{ProblemParts, block_at}
 use Rattle.solid_model.specs.Demands.{box_cell_in, lines_of}
 use Rattle.solid_model.specs.Frames.{frame_of}
-use Rattle.solid_model.specs.Rooms.{Sizes}
+use Rattle.solid_model.specs.WalledBoxes.{Sizes}
 use Rattle.solid_model.specs.GridBox.{grid_sizes, axis_along, axis_across}
 
 -- how many columns of cells a view shows in a row, and how many rows

@@ -144,8 +144,7 @@ pub fn excludes(partial: &Partial<'_>, line: LineId, block: u16, value: bool) ->
         line block value }
 {
     let problem = partial.problem();
-    // A look at the problem tells that its blocks are those of its grid.
-    let _grid = problem.grid();
+    problem.known();
     let seen = partial.seen_at(line);
     column_excludes(problem, seen, true, block, value)
         || column_excludes(problem, seen, false, block, value)

@@ -91,8 +91,7 @@ pub fn block_at_depth(
     ensures block { result ≡ block_of_place problem.now place depth }
     ensures below { IfSome result (λ b. b < problem.now.blocks.count) }
 {
-    // A look at the problem tells that its blocks are those of its grid.
-    let _grid = problem.grid();
+    problem.known();
     let along = number_on(sizes, place.view.frame().away, depth);
     listed(problem.blocks().numbers(), cells.first + along * cells.step)
 }
@@ -162,8 +161,7 @@ pub fn gather_columns(
         (column_count (grid_sizes problem.now.grid))
         spans.new columns.items on.new.items) }
 {
-    // A look at the problem tells that its blocks are those of its grid.
-    let _grid = problem.grid();
+    problem.known();
     let count = all_columns(problem.grid().sizes());
     let mut columns = Vec::with_capacity(alloc, count + 1)?;
     for number in 0..count {

@@ -20,7 +20,7 @@ mod whole;
 pub use doubts::{doubted, without_lowest};
 pub use excluding::{can_draw_with, column_of, excludes};
 pub use known::{KnownColumn, can_draw, meets};
-pub use partial::Partial;
+pub use partial::{Partial, undo_to};
 pub use places::has_place;
 pub use seen::{SeenLine, block_beside};
 pub use steps::Steps;

@@ -7,7 +7,7 @@
 //! decided is kept beside the list: a search asks it at every prefix. The crate knows nothing of
 //! the search, so a checker of a search's log may ask the same state the same questions.
 
-ghost use Rattle.std.specs.Prelude.{◌≡◌, ◌<◌, ◌++◌, ◌∷◌, [], None, false};
+ghost use Rattle.std.specs.Prelude.{◌≡◌, ◌<◌, ◌≤◌, ◌++◌, ◌∷◌, [], None, false, length, take};
 ghost use Rattle.line_demands.specs.Broken.{TellsBroken};
 ghost use Rattle.solid_model.specs.Decisions.{decided_by};
 
@@ -91,6 +91,7 @@ impl<'p> Model for Partial<'p> {
 impl<'p> Partial<'p> {
     ghost use Rattle.std.specs.Prelude.{◌≡◌, ◌↔◌, ◌<◌, ◌≤◌, ◌+◌, ◌++◌, ◌∷◌, [], ℕ, pos, Some, None, false, length, take, slice_get, slice_index_or, IsTrue, IfSome, IfOk};
     ghost use Rattle.solid_model.specs.declared.decision.Decision.{Decision};
+    ghost use Rattle.solid_model.specs.Blocks.{IsBlocksOf};
     ghost use Rattle.solid_model.specs.Decisions.{decided_by, AreDecisions, AreOnAll};
     ghost use Rattle.line_demands.specs.WholeChoices.{TellsMatching};
     ghost use Rattle.line_demands.specs.Free.{LeaveFreeBut};
@@ -107,8 +108,7 @@ impl<'p> Partial<'p> {
           decisions = [];
         }) }
     {
-        // A look at the problem tells that its blocks are those of its grid.
-        let _grid = problem.grid();
+        problem.known();
         let count = usize::from(problem.blocks().count());
         let decisions = Vec::with_capacity(alloc, count)?;
         let heights = Vec::with_capacity(alloc, count)?;
@@ -242,6 +242,16 @@ impl<'p> Partial<'p> {
         decide_with::<Brand>(self, block, full, Blank::new(1));
     }
 
+    /// The blocks of its problem are those of its grid, their number has 16 bits, and no block is
+    /// decided twice.
+    pub fn known(&self)
+        ensures blocks { IsBlocksOf self.now.problem.grid self.now.problem.blocks }
+        ensures few { self.now.problem.blocks.count ≤ 65535 }
+        ensures decided { AreDecisions self.now.problem.blocks.count self.now.decisions }
+    {
+        self.problem.known();
+    }
+
     /// The problem.
     pub fn problem(&self) -> &'p Problem
         ensures { result.now ≡ self.now.problem }
@@ -256,14 +266,13 @@ impl<'p> Partial<'p> {
         self.decisions.as_slice()
     }
 
-    /// How many decisions there are. No block is decided twice.
+    /// How many decisions there are.
     pub fn decided(&self) -> u16
         ensures count { result ≡ length self.now.decisions }
         ensures few { length self.now.decisions ≤ self.now.problem.blocks.count }
         ensures each { AreDecisions self.now.problem.blocks.count self.now.decisions }
     {
-        // A look at the blocks tells that their number has 16 bits.
-        let _count = self.problem.blocks().count();
+        self.problem.known();
         self.decisions.len() as u16
     }
 
@@ -379,6 +388,19 @@ impl<'p> Partial<'p> {
         ensures seen { IsSeen self.now.problem (decided_by self.now.decisions) result }
     {
         seen_line(self.columns.as_slice(), self.sides[number])
+    }
+}
+
+/// Takes back all decisions but the first, so many.
+pub fn undo_to(partial: &mut Partial<'_>, mark: u16)
+    requires { mark ≤ length partial.old.decisions }
+    ensures { partial.new ≡ record {
+      problem = partial.old.problem;
+      decisions = take mark partial.old.decisions;
+    } }
+{
+    while partial.decided() > mark {
+        partial.undo();
     }
 }
 

@@ -9,7 +9,7 @@ ghost use Rattle.solid_model.specs.Forcing.{place_beside, cell_beside};
 ghost use Rattle.solid_model.specs.Frames.{frame_of};
 ghost use Rattle.solid_model.specs.GridBox.{grid_sizes, axis_across};
 ghost use Rattle.solid_model.specs.PerAxis.{numbers_of};
-ghost use Rattle.solid_model.specs.Rooms.{is_below};
+ghost use Rattle.solid_model.specs.WalledBoxes.{is_below};
 
 use crate::gather::{ColumnPlace, block_at_depth};
 use crate::known::KnownColumn;

@@ -5,7 +5,7 @@ use Rattle.std.proofs.lemmas.Int.{ints}
 use Rattle.solid_model.specs.declared.cell.Axis.{Axis}
 use Rattle.solid_model.specs.declared.cell.Cell.{Cell}
 use Rattle.solid_model.specs.Cells.{coordinate, cell_before, cell_after}
-use Rattle.solid_model.specs.Rooms.{Sizes, Walls, Passes, LeadsOut}
+use Rattle.solid_model.specs.WalledBoxes.{Sizes, Walls, Passes, LeadsOut}
 use Rattle.solid_model.proofs.BoxCells.{below-bounds, within-below}
 use Rattle.lemmas.proofs.Chains.{reaches-itself, reaches-step_then}
 use Rattle.solid_model.proofs.InGrid.{before_after, placed_at}

@@ -9,7 +9,7 @@ use Rattle.solid_model.specs.declared.cell.Cell.{Cell}
 use Rattle.solid_model.specs.Blocks.{BlockNumbers, block_at}
 use Rattle.lemmas.specs.Lists.{Each}
 use Rattle.solid_model.specs.PerAxis.{numbers_of}
-use Rattle.solid_model.specs.Rooms.{is_below, place_of_number}
+use Rattle.solid_model.specs.WalledBoxes.{is_below, place_of_number}
 use Rattle.lemmas.proofs.Lists.{each-at, each-weaker, member-append_right}
 use Rattle.drawing_maker.specs.declared.cube.Cube.{Cube}
 use Rattle.drawing_maker.specs.declared.ticks.Part.{Part}

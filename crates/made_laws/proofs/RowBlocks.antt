@@ -11,7 +11,7 @@ use Rattle.solid_model.specs.DrawnStyle.{solid_drawing}
 use Rattle.lemmas.specs.Lists.{Member}
 use Rattle.solid_model.specs.Orders.{ComesBefore}
 use Rattle.solid_model.specs.Panels.{GridParts, coordinates_of, IsGridOf}
-use Rattle.solid_model.specs.Rooms.{is_within, number_at, IsEarlier}
+use Rattle.solid_model.specs.WalledBoxes.{is_within, number_at, IsEarlier}
 use Rattle.solid_model.specs.Runs.{IsDrawing}
 use Rattle.solid_model.specs.VirtualFaces.{IsVirtual}
 use Rattle.solid_model.specs.GridBox.{grid_sizes}

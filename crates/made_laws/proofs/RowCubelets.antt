@@ -11,7 +11,7 @@ use Rattle.solid_model.specs.declared.cell.Axis.TheVariants.{X, Y, Z}
 use Rattle.solid_model.specs.declared.cell.Cell.{Cell}
 use Rattle.solid_model.specs.Cells.{coordinate}
 use Rattle.lemmas.specs.Lists.{Member}
-use Rattle.solid_model.specs.Rooms.{place_of_number}
+use Rattle.solid_model.specs.WalledBoxes.{place_of_number}
 use Rattle.lemmas.proofs.Lists.{ascends-members}
 use Rattle.drawing_maker.specs.declared.cube.Kind.{Kind}
 use Rattle.drawing_maker.specs.declared.cube.Kind.TheVariants.{UnitCube, HollowCube, EightVoids}

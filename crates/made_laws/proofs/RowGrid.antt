@@ -18,7 +18,7 @@ use Rattle.solid_model.specs.Frames.{frame_of, along, across, cell_on, at_places
 use Rattle.solid_model.specs.Grid.{is_in_gap, IsInSomeGap}
 use Rattle.solid_model.specs.Matching.{Matches}
 use Rattle.solid_model.specs.Panels.{GridParts, coordinates_of, IsGridOf}
-use Rattle.solid_model.specs.Rooms.{is_below, is_within, place_of_number}
+use Rattle.solid_model.specs.WalledBoxes.{is_below, is_within, place_of_number}
 use Rattle.solid_model.specs.Runs.{IsDrawing}
 use Rattle.solid_model.specs.Segments.{segment_at}
 use Rattle.solid_model.specs.Wire.{is_blank_style, is_drawn_view, is_drawn_from}

@@ -16,7 +16,7 @@ use Rattle.solid_model.specs.DrawnStyle.{solid_drawing}
 use Rattle.solid_model.specs.Frames.{frame_of}
 use Rattle.lemmas.specs.Lists.{Member}
 use Rattle.solid_model.specs.Panels.{GridParts, coordinates_of, IsGridOf}
-use Rattle.solid_model.specs.Rooms.{face_sizes, Passes}
+use Rattle.solid_model.specs.WalledBoxes.{face_sizes, Passes}
 use Rattle.solid_model.specs.Runs.{IsDrawing}
 use Rattle.solid_model.specs.VirtualFaces.{Bars, IsVirtual}
 use Rattle.solid_model.specs.GridBox.{grid_sizes, axis_along, axis_across}

@@ -13,7 +13,7 @@ use Rattle.solid_model.specs.Cells.{coordinate, placed, cell_before, cell_after}
 use Rattle.solid_model.specs.DrawnStyle.{solid_drawing}
 use Rattle.solid_model.specs.Frames.{frame_of}
 use Rattle.solid_model.specs.Panels.{GridParts, coordinates_of, IsGridOf}
-use Rattle.solid_model.specs.Rooms.{same_axis, face_sizes, LeadsOut}
+use Rattle.solid_model.specs.WalledBoxes.{same_axis, face_sizes, LeadsOut}
 use Rattle.solid_model.specs.Runs.{IsDrawing}
 use Rattle.solid_model.specs.VirtualFaces.{Bars, IsVirtual}
 use Rattle.solid_model.specs.Wire.{is_drawn_view, is_drawn_from, is_pseudo_vertex, is_drawn_or_point, is_pseudo_edge}

@@ -10,7 +10,7 @@ use Rattle.solid_model.specs.Blocks.{Joined}
 use Rattle.solid_model.specs.Cells.{coordinate, placed, cell_before}
 use Rattle.solid_model.specs.DrawnStyle.{solid_drawing}
 use Rattle.solid_model.specs.Panels.{GridParts, coordinates_of, IsGridOf}
-use Rattle.solid_model.specs.Rooms.{Passes}
+use Rattle.solid_model.specs.WalledBoxes.{Passes}
 use Rattle.solid_model.specs.Runs.{IsDrawing}
 use Rattle.solid_model.specs.VirtualFaces.{IsVirtual}
 use Rattle.lemmas.proofs.Chains.{reaches-keeps}

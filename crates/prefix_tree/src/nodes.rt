@@ -111,11 +111,17 @@ impl Nodes {
         Ok(Nodes { list })
     }
 
-    /// How many there are.
-    pub fn len(&self) -> usize
-        ensures count { result ≡ length self.now }
+    /// Each prefix stands once, and is no longer than its number.
+    pub fn known(&self)
         ensures distinct { AreDistinct self.now }
         ensures short { (k : ℕ) → k < length self.now → length (prefix_at self.now k) ≤ k }
+    {
+        let _ = &self.list;
+    }
+
+    /// How many there are.
+    pub fn len(&self) -> usize
+        ensures { result ≡ length self.now }
     {
         self.list.len()
     }

@@ -161,11 +161,19 @@ impl Prefixes {
         })
     }
 
-    /// How many there are.
+    /// Each stands once.
+    pub fn known(&self)
+        ensures { AreDistinct self.now }
+    {
+        self.nodes.known();
+    }
+
+    /// How many there are. Each stands once.
     pub fn len(&self) -> usize
         ensures count { result ≡ length self.now }
         ensures distinct { AreDistinct self.now }
     {
+        self.nodes.known();
         self.nodes.len()
     }
 
@@ -224,8 +232,7 @@ impl Prefixes {
         requires count { count ≡ length (prefix_at self.now from) }
         ensures { IsMeeting (prefix_at self.now from) (prefix_at self.now to) result.0 result.1 }
     {
-        // A look at the nodes tells that the list of none is longer than its number.
-        let _count = self.nodes.len();
+        self.nodes.known();
         let mut from = from;
         let mut to = to;
         let mut shared = count;
@@ -249,8 +256,7 @@ impl Prefixes {
         requires to { to < length self.now }
         ensures { IfOk result (λ led. led ≡ prefix_at self.now to) }
     {
-        // A look at the nodes tells that the list of none is longer than its number.
-        let _count = self.nodes.len();
+        self.nodes.known();
         let (shared, more) = self.meeting(prefix.len(), from, to);
         let mut led = prefix.try_clone()?;
         led.resize(shared + more)?;

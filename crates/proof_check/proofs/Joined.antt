@@ -7,7 +7,7 @@ use Rattle.completeness_logs.specs.Logs.{KnownBlocks, IsRightEntry, after_entry,
 use Rattle.completeness_logs.specs.LogTexts.{most_listed}
 use Rattle.completeness_logs.proofs.Listed.{listed_count}
 use Rattle.proof_check.specs.Checks.{IsRestOfLog, Reads, AreLogLines, log_lines}
-use Rattle.proof_check.specs.Reading.{LogReading}
+use Rattle.proof_check.specs.LogLines.{LogReading}
 
 module _ (p : ProblemParts) (r : LogReading) (short : LogEntry → Bool) (entry_line : LogEntry → List ℕ) (closing_line : ℕ → List ℕ) (reads : Reads r short entry_line closing_line) where
   count_on : (known : KnownBlocks) (rest : List KnownBlocks) (e : LogEntry) (steps : List LogEntry) (n : ℕ)

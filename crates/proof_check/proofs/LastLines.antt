@@ -4,7 +4,7 @@ use Rattle.solid_model.specs.Blocks.{ProblemParts}
 use Rattle.dxf_groups.specs.TextLines.{text_lines}
 use Rattle.proof_check.specs.declared.fault.LogKind.{LogKind}
 use Rattle.proof_check.specs.Checks.{IsRestOfLog, IsRefusedFrom, IsWrongEnd}
-use Rattle.proof_check.specs.Reading.{LogReading}
+use Rattle.proof_check.specs.LogLines.{LogReading}
 
 -- a text without a byte has no line
 no_lines : (cs : List ℕ) → length cs ≡ 0 → text_lines cs ≡ []

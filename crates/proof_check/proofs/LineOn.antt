@@ -14,7 +14,7 @@ use Rattle.completeness_logs.specs.SplitMarks.{sides_to_come, all_to_come}
 use Rattle.completeness_logs.proofs.Listed.{listed_count}
 use Rattle.proof_check.specs.Checks.{IsRestOfLog, IsRefusedFrom, found_along, found_at, states_after}
 use Rattle.proof_check.specs.Refusals.{IsWrongEntry}
-use Rattle.proof_check.specs.Reading.{LogReading}
+use Rattle.proof_check.specs.LogLines.{LogReading}
 use Rattle.proof_check.specs.Walks.{LogPlace, LeadsTo}
 
 pub goes_self : (p : ProblemParts) (r : LogReading) (from : LogPlace) → LeadsTo p r from from

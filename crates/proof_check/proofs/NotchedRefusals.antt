@@ -12,7 +12,7 @@ use Rattle.completeness_logs.specs.SmallLogs.{notched_bar}
 use Rattle.completeness_logs.proofs.NotchedBar.{sized, stroke, bar_full, notch_empty, bar_empty, notch_forced, stroke_fails, all_decided, all_met}
 use Rattle.proof_check.specs.declared.fault.LogKind.{LogKind}
 use Rattle.proof_check.specs.Checks.{IsRefusedFrom}
-use Rattle.proof_check.specs.Reading.{log_reading}
+use Rattle.proof_check.specs.LogLines.{log_reading}
 use Rattle.proof_check.specs.Refusals.{AreRefused}
 use Rattle.proof_check.proofs.SaidRefusals.{said_lines}
 

@@ -9,7 +9,7 @@ use Rattle.completeness_logs.specs.Logs.{KnownBlocks, IsRightEntry, after_entry,
 use Rattle.completeness_logs.specs.LogTexts.{most_listed}
 use Rattle.proof_check.specs.Checks.{IsRestOfLog, IsRefusedFrom, IsWrongEnd}
 use Rattle.proof_check.specs.Refusals.{IsWrongEntry}
-use Rattle.proof_check.specs.Reading.{LogReading}
+use Rattle.proof_check.specs.LogLines.{LogReading}
 
 same_entry : (o : Option LogEntry) (e f : LogEntry) → o ≡ Some e → o ≡ Some f → e ≡ f
 same_entry o e f g h = same_Some e f (sym g ∙ h)

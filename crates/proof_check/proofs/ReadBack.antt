@@ -13,7 +13,7 @@ use Rattle.text_lines.specs.Words.{joined_behind, joined}
 use Rattle.completeness_logs.specs.LogTexts.{view_word, upright_word, full_word, place_words, entry_line, closing_line, has_short_numbers, is_short_entry, most_listed}
 use Rattle.text_lines.specs.Numbers.{number_of_word}
 use Rattle.text_lines.specs.Words.{Cut, cut, of_both, either_word}
-use Rattle.proof_check.specs.Reading.{view_of_word, place_with, place_along, place_seen_in, place_named, force_with, force_on, force_of, fail_of, split_of, entry_behind, entry_of_cut, entry_of_line, closing_count_of_cut, closing_count}
+use Rattle.proof_check.specs.LogLines.{view_of_word, place_with, place_along, place_seen_in, place_named, force_with, force_on, force_of, fail_of, split_of, entry_behind, entry_of_cut, entry_of_line, closing_count_of_cut, closing_count}
 use Rattle.text_lines.proofs.Cuts.{back, cut_back}
 use Rattle.text_lines.proofs.NumberWords.{number_written, number_read}
 use Rattle.text_lines.proofs.Spaces.{cut_word, decimal_no_space, map_some, both_some, back_as, is_that}

@@ -12,7 +12,7 @@ use Rattle.proof_check.specs.declared.fault.LogKind.TheVariants.{BadLine, Short}
 use Rattle.proof_check.specs.declared.fault.LogRefused.{LogRefused}
 use Rattle.proof_check.specs.declared.fault.LogRefused.TheVariants.{Fault, Memory}
 use Rattle.proof_check.specs.Checks.{IsRefusedFrom, IsWrongEnd, AreReadRefused}
-use Rattle.proof_check.specs.Reading.{log_reading, entry_of_line, closing_count}
+use Rattle.proof_check.specs.LogLines.{log_reading, entry_of_line, closing_count}
 use Rattle.proof_check.specs.Refusals.{SaysEntry, SaysEnd, IsWrongCount, IsFirstRefused, AreRefused, IsLogRefused, TellsRefusal}
 use Rattle.proof_check.proofs.ReadBack.{entry_read, entry_spelled, end_read_short, end_as}
 use Rattle.proof_check.proofs.WholeLogs.{one_whole_refusal, whole_refused_or_right}

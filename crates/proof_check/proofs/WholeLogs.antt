@@ -15,7 +15,7 @@ use Rattle.completeness_logs.proofs.Trees.{follows_tree, tree_follows, tree_list
 use Rattle.proof_check.specs.declared.fault.LogKind.{LogKind}
 use Rattle.proof_check.specs.Checks.{IsRestOfLog, Reads, log_lines, found_along, found_at, states_after, AreReadRefused, IsReadRefused}
 use Rattle.text_lines.specs.Numbers.{number_of_word}
-use Rattle.proof_check.specs.Reading.{log_reading, opening_count}
+use Rattle.proof_check.specs.LogLines.{log_reading, opening_count}
 use Rattle.proof_check.proofs.Joined.{rest_of_log, log_of_rest}
 use Rattle.text_lines.proofs.NumberWords.{number_read, number_written}
 use Rattle.proof_check.proofs.OneVerdict.{refused_or_right, one_refusal}

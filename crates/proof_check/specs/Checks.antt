@@ -8,7 +8,7 @@ use Rattle.completeness_logs.specs.Logs.{KnownBlocks, IsRightEntry, after_entry,
 use Rattle.completeness_logs.specs.LogTexts.{most_listed, opening_line}
 use Rattle.proof_check.specs.declared.fault.LogKind.{LogKind}
 use Rattle.proof_check.specs.declared.fault.LogKind.TheVariants.{BadLine, Short}
-use Rattle.proof_check.specs.Reading.{LogReading, log_reading}
+use Rattle.proof_check.specs.LogLines.{LogReading, log_reading}
 use Rattle.proof_check.specs.Refusals.{IsWrongCount, IsWrongEntry}
 
 -- ---- what is wrong, as lines are read

@@ -1,4 +1,4 @@
-pub mod Reading
+pub mod LogLines
 pub mod Checks
 pub mod Refusals
 pub mod Walks

@@ -4,7 +4,7 @@ use Rattle.solid_model.specs.Blocks.{ProblemParts}
 use Rattle.completeness_logs.specs.Logs.{KnownBlocks}
 use Rattle.proof_check.specs.declared.fault.LogKind.{LogKind}
 use Rattle.proof_check.specs.Checks.{IsRestOfLog, IsRefusedFrom, found_along}
-use Rattle.proof_check.specs.Reading.{LogReading}
+use Rattle.proof_check.specs.LogLines.{LogReading}
 
 -- At some place of a log trees under these states are to come, these choices are listed, and these lines are left, of which the
 -- first has this number.

@@ -24,8 +24,7 @@ pub fn line_at(problem: &Problem, place: LinePlace) -> Option<LineId>
     ensures none { result ≡ None → IsTrue (has_line problem.now.grid (line_placed place)) → ⊥ }
 {
     let grid = problem.grid();
-    // A look at the sizes tells that they are few.
-    let _sizes = grid.sizes();
+    grid.known();
     if place.at > 255 {
         return None;
     }

@@ -6,9 +6,8 @@ ghost use Rattle.completeness_logs.specs.Logs.{IsRightEntry, after_entry, listed
 ghost use Rattle.completeness_logs.specs.SplitMarks.{AreSplitMarks, sides_to_come, all_to_come};
 
 use crate::asking::choice_known;
-use completeness_logs::LogEntry;
+use completeness_logs::{LogEntry, close_tree, go_force, go_split};
 use line_demands::Partial;
-use log_trail::{close_tree, go_force, go_split};
 use solid_model::{Choice, Memory};
 use std::alloc::Global;
 
@@ -31,8 +30,7 @@ pub fn take_entry(
     ensures listed { OnOk result (listed.new.items ≡ listed.old.items
         ++ listed_at partial.old.problem (decided_by partial.old.decisions) entry) }
 {
-    // A look at the blocks tells that their number has 16 bits.
-    let _count = partial.problem().blocks().count();
+    partial.known();
     match entry {
         LogEntry::Fail(_) => Ok(close_tree(partial, marks)),
         LogEntry::Whole => {

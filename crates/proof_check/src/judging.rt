@@ -40,8 +40,7 @@ fn shows_force(partial: &Partial<'_>, block: u64, full: bool, place: LinePlace) 
     ensures { IsTrue result
         ↔ ShowsForce partial.now.problem (decided_by partial.now.decisions) block full place }
 {
-    // A look at the blocks tells that their number has 16 bits.
-    let _count = partial.problem().blocks().count();
+    partial.known();
     match line_at(partial.problem(), place) {
         None => false,
         Some(line) => excludes(partial, line, block as u16, !full),

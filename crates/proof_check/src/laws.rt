@@ -7,7 +7,7 @@ ghost use Rattle.completeness_logs.specs.LogTexts.{IsLog, closing_line, entry_li
 ghost use Rattle.completeness_logs.specs.SmallLogs.{notched_bar};
 ghost use Rattle.proof_check.specs.declared.fault.LogKind.{LogKind};
 ghost use Rattle.proof_check.specs.declared.fault.LogKind.TheVariants.{BadLine, BadBlock, Unproved, Unsolid, BadCount, Short, Long};
-ghost use Rattle.proof_check.specs.Reading.{entry_of_line, closing_count};
+ghost use Rattle.proof_check.specs.LogLines.{entry_of_line, closing_count};
 ghost use Rattle.proof_check.specs.Refusals.{IsLogRefused};
 
 /// A log isn't refused, and what is refused is so in one way: so a text has one verdict.

@@ -1,7 +1,7 @@
 //! How the lines of a log are read: word by word, each form by a function of its own.
 
 ghost use Rattle.std.specs.Prelude.{◌≡◌};
-ghost use Rattle.proof_check.specs.Reading.{view_of_word, place_with, place_along, place_seen_in, place_named, force_with, force_on, force_of, fail_of, split_of, entry_behind, entry_of_line, closing_count, opening_count};
+ghost use Rattle.proof_check.specs.LogLines.{view_of_word, place_with, place_along, place_seen_in, place_named, force_with, force_on, force_of, fail_of, split_of, entry_behind, entry_of_line, closing_count, opening_count};
 
 use completeness_logs::{LinePlace, LogEntry};
 use solid_model::View;

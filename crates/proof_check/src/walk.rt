@@ -7,7 +7,7 @@ ghost use Rattle.completeness_logs.specs.Logs.{nothing_known};
 ghost use Rattle.completeness_logs.specs.LogTexts.{opening_line, IsLog};
 ghost use Rattle.proof_check.specs.Checks.{IsRestOfLog, IsRefusedFrom, found_along};
 ghost use Rattle.proof_check.specs.Refusals.{IsLogRefused, TellsRefusal};
-ghost use Rattle.proof_check.specs.Reading.{log_reading};
+ghost use Rattle.proof_check.specs.LogLines.{log_reading};
 
 use crate::asking::block_count;
 use crate::fault::{LogFault, LogKind, LogRefused};

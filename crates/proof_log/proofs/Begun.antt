@@ -23,7 +23,7 @@ use Rattle.solid_model.specs.Blocks.{ProblemParts, IsBlocksOf}
 use Rattle.solid_model.specs.Choices.{IsMatchingChoice}
 use Rattle.solid_model.specs.GridBox.{grid_sizes}
 use Rattle.solid_model.specs.Panels.{IsGrid, coordinates_of}
-use Rattle.text_pieces.proofs.WrittenPieces.{no_prefix, prefix_longer}
+use Rattle.tv_base.proofs.WrittenPieces.{no_prefix, prefix_longer}
 use Rattle.tv_base.specs.Pieces.{AppendsPrefix}
 
 -- the text of a log's first line, and of some entries

@@ -9,17 +9,15 @@ ghost use Rattle.proof_log.specs.Lines.{fed};
 ghost use Rattle.proof_log.specs.Writing.{WritesLog, Counts};
 ghost use Rattle.solid_model.specs.Blocks.{IsBlocksOf};
 ghost use Rattle.solid_model.specs.Panels.{IsGrid};
-ghost use Rattle.text_pieces.specs.Pieces.{WritesOn};
+ghost use Rattle.tv_base.specs.Pieces.{WritesOn, AppendsPrefix};
 ghost use Rattle.tv_base.specs.Faults.{Rose};
-ghost use Rattle.tv_base.specs.Pieces.{AppendsPrefix};
 
 use crate::line::{push_closing, push_entry, push_opening};
 use crate::walk::Walk;
 use completeness_logs::LogEntry;
-use solid_model::{Axis, Problem};
+use solid_model::Problem;
 use std::alloc::Global;
-use text_pieces::{PIECE, make_room, write_piece};
-use tv_base::{Sink, SinkError};
+use tv_base::{PIECE, Sink, SinkError, write_if_full, write_piece};
 
 /// How many blocks a problem has: their number has 16 bits.
 fn block_count(problem: &Problem) -> u16
@@ -41,7 +39,7 @@ fn write_entry<K: Sink>(piece: &mut Vec<u8>, entry: LogEntry, sink: &mut K) -> R
     ensures failed { IsErrOf result SinkError.Failed →
         Rose (K.faults sink.old) (K.faults sink.new) }
 {
-    make_room(piece, sink)?;
+    write_if_full(piece, sink)?;
     push_entry(piece, entry)?;
     Ok(())
 }
@@ -81,8 +79,7 @@ fn write_entries<K: Sink>(
     ensures failed { IsErrOf result SinkError.Failed →
         Rose (K.faults sink.old) (K.faults sink.new) }
 {
-    // A look at the blocks tells that their number has 16 bits.
-    let _count = block_count(walk.problem());
+    walk.problem().known();
     let mut solids = 0;
     let mut open = true;
     while open {
@@ -141,10 +138,7 @@ pub fn prove_log<K: Sink>(alloc: Global, problem: &Problem, sink: &mut K) -> Res
     ensures failed { IsErrOf result SinkError.Failed →
         Rose (K.faults sink.old) (K.faults sink.new) }
 {
-    // Looks at the problem tell that its blocks are those of its grid, that its grid is a
-    // drawing's, and that the number of its blocks has 16 bits.
-    let _coordinates = problem.grid().coordinates(Axis::X);
-    let _count = block_count(problem);
+    problem.known();
     match Walk::new(alloc, problem) {
         Ok(walk) => {
             let mut walk = walk;

@@ -10,9 +10,8 @@ ghost use Rattle.completeness_logs.specs.LogTexts.{is_short_entry};
 ghost use Rattle.completeness_logs.specs.SplitMarks.{all_to_come, sides_to_come};
 ghost use Rattle.solid_model.specs.Decisions.{decided_by};
 
-use completeness_logs::{LinePlace, LogEntry};
+use completeness_logs::{LinePlace, LogEntry, close_tree, go_split};
 use line_demands::Partial;
-use log_trail::{close_tree, go_split};
 use propagate::{DoubtedLines, Forcing, doubt_last, step_doubted};
 use solid_model::{LineId, Memory, Problem};
 use std::alloc::Global;
@@ -158,8 +157,7 @@ impl<'p> Walk<'p> {
     {
         match step_doubted(&mut self.partial, &mut self.doubted) {
             Forcing::Forced { block, full, line } => {
-                // A look at the decisions tells that each is on a block that is there.
-                let _count = self.partial.decided();
+                self.partial.known();
                 Ok(NextEntry {
                     entry: LogEntry::Force(u64::from(block), full, place_of(line)),
                     goes_on: true,

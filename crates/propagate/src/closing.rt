@@ -45,8 +45,7 @@ fn settle_line(partial: &mut Partial<'_>, number: usize) -> Option<LineId>
         → IsHandled partial.old.problem partial.old.decisions from l
         → IsHandled partial.old.problem partial.new.decisions from l }
 {
-    // A look at the problem tells that its blocks are those of its grid.
-    let _grid = partial.problem().grid();
+    partial.known();
     let seen = partial.seen(number);
     let decision = forced_by_line(partial, seen)?;
     partial.decide(decision.block, decision.full);
@@ -60,7 +59,7 @@ pub fn decided_block(partial: &Partial<'_>, at: u16) -> u16
         × (d.block ≡ result) }
     ensures there { result < partial.now.problem.blocks.count }
 {
-    let _count = partial.decided();
+    partial.known();
     partial.decisions()[usize::from(at)].block
 }
 
@@ -78,10 +77,7 @@ fn settle_touching(partial: &mut Partial<'_>, at: u16) -> Option<LineId>
         → IsHandled partial.old.problem partial.old.decisions at l
         → IsHandled partial.old.problem partial.new.decisions (at + 1) l }
 {
-    // A look at the problem tells that its blocks are those of its grid.
-    let _grid = partial.problem().grid();
-    // A look at the decisions tells that no block is decided twice.
-    let _count = partial.decided();
+    partial.known();
     let block = decided_block(partial, at);
     let doubts = partial.doubts(at);
     if doubts == 0 {
@@ -181,8 +177,7 @@ pub fn decide_closed(partial: &mut Partial<'_>, block: u16, full: bool) -> Close
         (partial.old.decisions ++ record { block = block; full = full } ∷ [])
         partial.new.decisions result }
 {
-    // A look at the problem tells that its blocks are those of its grid.
-    let _grid = partial.problem().grid();
+    partial.known();
     let from = partial.decided();
     partial.decide(block, full);
     if let Some(line) = partial.broken_line() {

@@ -69,9 +69,8 @@ pub fn forced_by_line(partial: &Partial<'_>, seen: SeenLine) -> Option<Decision>
         seen.line)
         result }
 {
+    partial.known();
     let problem = partial.problem();
-    // A look at the problem tells that its blocks are those of its grid.
-    let _grid = problem.grid();
     let after = doubted(seen.style, seen.after, seen.before);
     let before = doubted(seen.style, seen.before, seen.after);
     if after | before == 0 {

@@ -46,8 +46,7 @@ pub fn step(partial: &mut Partial<'_>) -> Forcing
     ensures problem { partial.new.problem ≡ partial.old.problem }
     ensures step { IsStep partial.old.problem partial.old.decisions partial.new.decisions result }
 {
-    // A look at the problem tells that its blocks are those of its grid.
-    let _grid = partial.problem().grid();
+    partial.known();
     if let Some(line) = partial.broken_line() {
         return Forcing::Conflict { line };
     }
@@ -94,8 +93,7 @@ pub fn doubt_last(partial: &Partial<'_>, doubted: &mut DoubtedLines)
     requires { AreDoubtedBefore partial.now.problem partial.now.decisions doubted.old }
     ensures { AreDoubted partial.now.problem partial.now.decisions doubted.new }
 {
-    // A look at the problem tells that its blocks are those of its grid.
-    let _grid = partial.problem().grid();
+    partial.known();
     let count = partial.decided();
     doubt_touching(partial, count - 1, doubted);
 }
@@ -107,8 +105,7 @@ pub fn step_doubted(partial: &mut Partial<'_>, doubted: &mut DoubtedLines) -> Fo
     ensures step { IsStep partial.old.problem partial.old.decisions partial.new.decisions result }
     ensures doubted { AreDoubted partial.new.problem partial.new.decisions doubted.new }
 {
-    // A look at the problem tells that its blocks are those of its grid.
-    let _grid = partial.problem().grid();
+    partial.known();
     if let Some(line) = partial.broken_line() {
         return Forcing::Conflict { line };
     }

@@ -14,7 +14,7 @@ use Rattle.solid_model.specs.Kept.{edge_sizes}
 use Rattle.solid_model.specs.Marks.{BoxMarks, is_marked, AreMarksOf}
 use Rattle.solid_model.specs.Panels.{GridParts}
 use Rattle.solid_model.specs.PerAxis.{AreFew}
-use Rattle.solid_model.specs.Rooms.{Sizes, is_below, is_within}
+use Rattle.solid_model.specs.WalledBoxes.{Sizes, is_below, is_within}
 use Rattle.solid_model.specs.Wire.{is_on_drawn, is_pseudo_vertex, is_drawn_or_point, is_pseudo_edge}
 use Rattle.solid_model.proofs.BoxCells.{below-more, within-below, below-within}
 use Rattle.pseudo_wire.specs.DrawnPoints.{point_sizes, view_sizes, projected, AreDrawnIn, AreDrawnPoints, is_marked_point, is_marked_edge}

@@ -13,7 +13,7 @@ use Rattle.solid_model.specs.Marks.{BoxMarks, is_marked, AreMarksOf}
 use Rattle.solid_model.specs.Panels.{GridParts}
 use Rattle.solid_model.specs.PerAxis.{by_axis, numbered}
 use Rattle.solid_model.specs.PerView.{of_view}
-use Rattle.solid_model.specs.Rooms.{Sizes}
+use Rattle.solid_model.specs.WalledBoxes.{Sizes}
 use Rattle.solid_model.specs.Wire.{is_on_drawn, is_drawn_or_point}
 
 -- The points of a box's cells are a box too. The point n is the least corner of the cell n.

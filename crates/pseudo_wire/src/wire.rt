@@ -9,7 +9,7 @@ ghost use Rattle.pseudo_wire.specs.DrawnPoints.{AreDrawnPoints};
 
 use crate::drawn_points::drawn_points;
 use crate::edges::is_marked_edge;
-use solid_model::{Axis, CellTest, Grid, Marks, Memory, PerAxis, PerView, Wire};
+use solid_model::{Axis, CellTest, Grid, Marks, MarksByAxis, Memory, PerAxis, PerView, Wire};
 use std::alloc::Global;
 
 /// The edges of a grid along an axis, asked whether they are drawn and their ends have marks.
@@ -61,9 +61,9 @@ pub fn wire_of(alloc: Global, grid: &Grid) -> Result<Wire, Memory>
     ensures { IfOk result (λ wire. IsWireOf grid.now wire) }
 {
     let points = drawn_points(alloc, grid)?;
-    Ok(Wire::new(
-        edges_along(alloc, grid, &points, Axis::X)?,
-        edges_along(alloc, grid, &points, Axis::Y)?,
-        edges_along(alloc, grid, &points, Axis::Z)?,
-    ))
+    Ok(MarksByAxis {
+        x: edges_along(alloc, grid, &points, Axis::X)?,
+        y: edges_along(alloc, grid, &points, Axis::Y)?,
+        z: edges_along(alloc, grid, &points, Axis::Z)?,
+    })
 }

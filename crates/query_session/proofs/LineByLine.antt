@@ -7,7 +7,7 @@ use Rattle.query_session.specs.declared.ask.Ask.{Ask}
 use Rattle.query_session.specs.declared.ask.AskFault.{AskFault}
 use Rattle.query_session.specs.declared.ask.Asking.{Asking}
 use Rattle.query_session.specs.declared.ask.AskKind.TheVariants.{TooMany}
-use Rattle.query_session.specs.Reading.{asking_of_line}
+use Rattle.query_session.specs.SessionLines.{asking_of_line}
 use Rattle.query_session.specs.Sessions.{fault_at, asked_or_bad, before, go_on, line_said, read_askings, script_of, scripts_of}
 
 pub before_none : (r : Result (List Asking) AskFault) → before [] r ≡ r

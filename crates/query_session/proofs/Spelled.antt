@@ -14,7 +14,7 @@ use Rattle.query_session.specs.declared.ask.Ask.{Ask}
 use Rattle.query_session.specs.declared.ask.Ask.TheVariants as ask
 use Rattle.query_session.specs.declared.ask.Asking.{Asking}
 use Rattle.query_session.specs.Askings.{is_in, may_be_asked, may_stand, ask_words, asking_line, readers_line, may_read}
-use Rattle.query_session.specs.Reading.{kept_in, number_within, page_from, page_of, wait_of, ask_behind, ask_of_cut, ask_of_line, asking_with, asking_of_line, readers_of_cut, readers_of_line}
+use Rattle.query_session.specs.SessionLines.{kept_in, number_within, page_from, page_of, wait_of, ask_behind, ask_of_cut, ask_of_line, asking_with, asking_of_line, readers_of_cut, readers_of_line}
 
 -- ---- spelled, then read
 

@@ -1,4 +1,4 @@
 pub mod Askings
-pub mod Reading
+pub mod SessionLines
 pub mod Sessions
 pub mod Tales

@@ -7,7 +7,7 @@ use Rattle.query_session.specs.declared.ask.Asking.{Asking}
 use Rattle.query_session.specs.declared.ask.AskFault.{AskFault}
 use Rattle.query_session.specs.declared.ask.AskKind.{AskKind}
 use Rattle.query_session.specs.declared.ask.AskKind.TheVariants.{BadLine, TooMany, NoGo}
-use Rattle.query_session.specs.Reading.{asking_of_line, readers_of_line}
+use Rattle.query_session.specs.SessionLines.{asking_of_line, readers_of_line}
 
 -- there may be so many askings
 abbrev pub most_askings : ℕ

@@ -7,7 +7,7 @@ ghost use Rattle.solution_book.specs.Pages.{IsPageOf};
 ghost use Rattle.query_session.specs.declared.ask.Ask.{Ask};
 ghost use Rattle.query_session.specs.declared.ask.Asking.{Asking};
 ghost use Rattle.query_session.specs.Askings.{asking_line, readers_line, may_read, may_stand};
-ghost use Rattle.query_session.specs.Reading.{asking_of_line, readers_of_line};
+ghost use Rattle.query_session.specs.SessionLines.{asking_of_line, readers_of_line};
 ghost use Rattle.query_session.specs.Tales.{AreTaken, ArePagesOfOneList, seen_solids};
 
 /// The pages that a reader takes are of one list that grows, and the list that it sees at last

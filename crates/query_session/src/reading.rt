@@ -1,7 +1,7 @@
 //! How the lines of a session are read: word by word, each form by a function of its own.
 
 ghost use Rattle.std.specs.Prelude.{◌≡◌};
-ghost use Rattle.query_session.specs.Reading.{number_within, page_from, page_of, wait_of, ask_behind, ask_of_line, asking_with, asking_of_line, readers_of_line};
+ghost use Rattle.query_session.specs.SessionLines.{number_within, page_from, page_of, wait_of, ask_behind, ask_of_line, asking_with, asking_of_line, readers_of_line};
 
 use crate::ask::{Ask, Asking};
 use text_lines::{cut, is_word, number};

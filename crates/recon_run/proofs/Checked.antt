@@ -1,8 +1,8 @@
 -- What is said of a checked log.
 use Rattle.std.proofs.Common.{codes, ◌≡◌, inl, inr, ◌∙◌, ap, refl, sym, subst, Bool, ℕ, List, length, Some, IsPermutation}
 use Rattle.std.proofs.Math.Path.{transport}
-use Rattle.choice_sieves.specs.Those.{AreThose}
-use Rattle.choice_sieves.proofs.Those.{some_those}
+use Rattle.page_calls.specs.Those.{AreThose}
+use Rattle.page_calls.proofs.Those.{some_those}
 use Rattle.completeness_logs.specs.LogTexts.{IsLog}
 use Rattle.completeness_logs.proofs.Matching.{log_ordered}
 use Rattle.dxf_entities.specs.declared.layer_set.LayerSet.{LayerSet}
@@ -56,9 +56,16 @@ module _ (t : Input) (p : ProblemParts) (has : HasProblem t p) (log : List ℕ) 
         → SaysWhichFit has log (fitting_text (length choices) fitting)
     yes_of_some fitting left =
         let (solids, all, filled) = all_solids choices matching in
-        let (those, told, fill) = all_left p (λ a. (has.grid.coordinates a).ordered) (further_lines has.further) drawing choices fitting solids all filled left in
-        (log_is, solids, all, those, told, fitting, fill,
-        ap (λ n. fitting_text n fitting) (as_many (coordinates_of p.grid) p.blocks.numbers p.blocks.count choices solids filled))
+        let (those, told, fill) = all_left p (λ a. (has.grid.coordinates a).ordered) (further_lines has.further) drawing choices fitting solids all filled left in (
+          log_is,
+          solids,
+          all,
+          those,
+          told,
+          fitting,
+          fill,
+          ap (λ n. fitting_text n fitting) (as_many (coordinates_of p.grid) p.blocks.numbers p.blocks.count choices solids filled),
+        )
 
   -- what a log lists, in the stated order, are the choices that match
   pub listed_match : (listed choices : List (List Bool)) → IsLog p log listed → IsPermutation listed choices → Ascends ChoicePrecedes choices → AreMatching choices

@@ -4,8 +4,8 @@ use Rattle.std.proofs.Math.Seq.{take-length}
 use Rattle.std.proofs.lemmas.List.{take-append-le}
 use Rattle.std.proofs.lemmas.List.Sorted.{IsPermutation-refl, IsPermutation-sym, length_permutation}
 use Rattle.std.specs.Io.KnownBytes.{Appends}
-use Rattle.choice_sieves.specs.Those.{AreThose}
-use Rattle.choice_sieves.proofs.Those.{decided_those, few_those, joined, joined_those, those-append, those_alike, those_ascend, those_within}
+use Rattle.page_calls.specs.Those.{AreThose}
+use Rattle.page_calls.proofs.Those.{decided_those, few_those, joined, joined_those, those-append, those_alike, those_ascend, those_within}
 use Rattle.column_laws.proofs.LivePrefixes.{live_keeps_matching}
 use Rattle.further_views.specs.Further.{HasRuns}
 use Rattle.replies.specs.Writings.{EndsWriting}

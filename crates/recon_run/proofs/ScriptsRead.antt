@@ -10,7 +10,7 @@ use Rattle.query_session.specs.declared.ask.Ask.{Ask}
 use Rattle.query_session.specs.declared.ask.Asking.{Asking}
 use Rattle.query_session.specs.declared.ask.AskFault.{AskFault}
 use Rattle.query_session.specs.Askings.{is_in}
-use Rattle.query_session.specs.Reading.{kept_in, number_within, readers_of_cut, readers_of_line}
+use Rattle.query_session.specs.SessionLines.{kept_in, number_within, readers_of_cut, readers_of_line}
 use Rattle.query_session.specs.Sessions.{read_askings, read_session, script_of, scripts_by, scripts_read}
 use Rattle.text_lines.specs.Numbers.{number_of_word}
 use Rattle.text_lines.specs.Words.{cut}

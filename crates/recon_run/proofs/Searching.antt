@@ -2,7 +2,7 @@
 use Rattle.std.proofs.Common.{◌≡◌, refl, Bool, ℕ, List, length, Option, Result, Ok, Err, sym, ap, subst, ◌∙◌}
 use Rattle.std.proofs.Math.Seq.{take-length}
 use Rattle.std.specs.Io.KnownBytes.{Appends}
-use Rattle.choice_sieves.specs.Those.{AreThose}
+use Rattle.page_calls.specs.Those.{AreThose}
 use Rattle.file_problem.specs.Inputs.{HasFurther, HasProblem, Input}
 use Rattle.further_views.specs.Further.{further_lines}
 use Rattle.replies.specs.declared.status.Answer.{Answer}

@@ -1,8 +1,8 @@
 -- From the end of a search to the solids that are listed.
 use Rattle.std.proofs.Common.{◌≡◌, ℕ, ◌<◌, ◌≤◌, ◌<ℤ◌, List, [], ◌++◌, Bool, length, inl, inr, refl, sym, ap, subst, ◌∙◌, arith}
 use Rattle.column_laws.proofs.LivePrefixes.{live_keeps_matching}
-use Rattle.choice_sieves.specs.Those.{AreThose}
-use Rattle.choice_sieves.proofs.Those.{no_more_those, some_those}
+use Rattle.page_calls.specs.Those.{AreThose}
+use Rattle.page_calls.proofs.Those.{no_more_those, some_those}
 use Rattle.dxf_entities.specs.declared.layer.Layer.{Layer}
 use Rattle.file_problem.specs.Inputs.{HasProblem, Input}
 use Rattle.further_views.specs.Further.{further_lines}

@@ -27,8 +27,8 @@ use Rattle.recon_run.specs.Endings.{Answers}
 use Rattle.recon_run.specs.Owed.{AnswersOwed, HasRead, Judgement, Owed, Search, alone, answer_at, drawing_profile, in_one_piece, input_of, judgement_of, owed, owed_for, read, search_for_all, search_for_log, search_for_one, searched, session_judgement}
 use Rattle.recon_run.specs.Searched.{FillSolids}
 use Rattle.recon_run.proofs.Filled.{filled_at, some_first}
-use Rattle.choice_sieves.specs.Those.{AreThose}
-use Rattle.choice_sieves.proofs.Those.{some_those}
+use Rattle.page_calls.specs.Those.{AreThose}
+use Rattle.page_calls.proofs.Those.{some_those}
 use Rattle.further_views.specs.Further.{further_lines}
 use Rattle.six_views.specs.Further.{FitsLines}
 use Rattle.file_problem.proofs.Faults.{file_fault}

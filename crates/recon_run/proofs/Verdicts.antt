@@ -17,7 +17,7 @@ use Rattle.dxf_groups.specs.TextLines.{behind_lines, is_feed, text_lines}
 use Rattle.proof_check.specs.declared.fault.LogKind.{LogKind}
 use Rattle.proof_check.specs.declared.fault.LogKind.TheVariants.{BadLine, BadBlock, Unproved, Unsolid, TooMany, BadCount, Short, Long}
 use Rattle.proof_check.specs.Checks.{IsRefusedFrom, IsRestOfLog, IsWrongEnd, found_along}
-use Rattle.proof_check.specs.Reading.{closing_count, entry_of_line, log_reading}
+use Rattle.proof_check.specs.LogLines.{closing_count, entry_of_line, log_reading}
 use Rattle.proof_check.specs.Refusals.{IsLogRefused, IsWrongEntry}
 use Rattle.proof_check.proofs.SaidRefusals.{head_refused, rest_refused}
 use Rattle.proof_check.proofs.WholeLogs.{log_from}

@@ -1,7 +1,7 @@
 -- Problems that are found in inputs and searched, and what is written of them.
 use Rattle.std.specs.Prelude.{◌≡◌, ◌≤◌, Bool, ℕ, List, length, Option, Some}
 use Rattle.dxf_groups.specs.Pairs.{rest_of_text}
-use Rattle.choice_sieves.specs.Those.{AreThose}
+use Rattle.page_calls.specs.Those.{AreThose}
 use Rattle.dxf_entities.specs.declared.layer_set.LayerSet.{LayerSet}
 use Rattle.dxf_entities.specs.declared.layer_set.LayerSet.TheVariants.{Main, Six, Sections}
 use Rattle.file_problem.specs.Inputs.{HasFurther, Input, IsFileFault}
@@ -12,8 +12,8 @@ use Rattle.recon_run.specs.declared.found.Found.TheVariants.{Problem, Fault}
 use Rattle.recon_run.specs.declared.sought.Sought.{Sought}
 use Rattle.recon_run.specs.declared.export.Export.{Export}
 use Rattle.recon_run.specs.declared.export.Export.TheVariants.{Drawing, Triangles}
-use Rattle.recon_run.specs.declared.form.Form.{Form}
-use Rattle.recon_run.specs.declared.form.Form.TheVariants as form
+use Rattle.recon_run.specs.declared.question.Question.{Question}
+use Rattle.recon_run.specs.declared.question.Question.TheVariants as question
 use Rattle.recon_run.specs.Answers.{TellsNumbered, numbered_answer}
 use Rattle.recon_run.specs.Readers.{TellsListed}
 use Rattle.replies.specs.declared.status.Answer.TheVariants as answers
@@ -129,28 +129,28 @@ abbrev pub AnswersNumbered : (List Cell → List ℕ → Type 0) → ℕ → Lis
 AnswersNumbered writes which solids answer text =
     (answer ≡ numbered_answer which (length solids)) × TellsNumbered writes which solids text
 
--- ---- forms
+-- ---- questions
 
 -- what is written of a solid in a form, with so many decimals
 abbrev pub writes_of : Export → ℕ → List Cell → List ℕ → Type 0
 writes_of Drawing = IsFileOf
 writes_of Triangles = λ decimals. IsSolidStl
 
--- what a form asks of an input
-abbrev pub asked_of : Form → Asked
-asked_of (form.AllSolids all) = searched (search_for_all all.pages all.limits)
-asked_of (form.OneSolid one) = searched (search_for_one (writes_of one.export) one.which one.limits)
-asked_of (form.Log limits) = searched (search_for_log limits)
-asked_of form.Check = judged log_judgement
-asked_of form.Blocks = judged blocks_judgement
-asked_of (form.Session limits) = judged (session_judgement limits)
+-- what a question asks of an input
+abbrev pub asked_of : Question → Asked
+asked_of (question.AllSolids all) = searched (search_for_all all.pages all.limits)
+asked_of (question.OneSolid one) = searched (search_for_one (writes_of one.export) one.which one.limits)
+asked_of (question.Log limits) = searched (search_for_log limits)
+asked_of question.Check = judged log_judgement
+asked_of question.Blocks = judged blocks_judgement
+asked_of (question.Session limits) = judged (session_judgement limits)
 
--- so ends the writing of what is answered in a form to an input that is read so and by which this is sought
-abbrev pub AnswersForm : Form → ProfileParts → Sought → Option (List ℕ) → Option (List ℕ) → Type 0 → Status → Type 0
-AnswersForm f profile sought held now rose status = (t : List ℕ) → IsSoughtBy (input_of profile t) sought
-    → EndsWriting ((judgement_of (asked_of f)).tells (input_of profile t)) ((judgement_of (asked_of f)).begins (input_of profile t)) held now rose status
+-- so ends the writing of what answers a question about an input that is read so and by which this is sought
+abbrev pub AnswersQuestion : Question → ProfileParts → Sought → Option (List ℕ) → Option (List ℕ) → Type 0 → Status → Type 0
+AnswersQuestion q profile sought held now rose status = (t : List ℕ) → IsSoughtBy (input_of profile t) sought
+    → EndsWriting ((judgement_of (asked_of q)).tells (input_of profile t)) ((judgement_of (asked_of q)).begins (input_of profile t)) held now rose status
 
 -- the same where these bytes stand behind its drawing
-abbrev pub AnswersBehind : Form → ProfileParts → Sought → List ℕ → Option (List ℕ) → Option (List ℕ) → Type 0 → Status → Type 0
-AnswersBehind f profile sought rest held now rose status = (t : List ℕ) → IsSoughtBy (input_of profile t) sought → rest_of_text t ≡ Some rest
-    → EndsWriting ((judgement_of (asked_of f)).tells (input_of profile t)) ((judgement_of (asked_of f)).begins (input_of profile t)) held now rose status
+abbrev pub AnswersBehind : Question → ProfileParts → Sought → List ℕ → Option (List ℕ) → Option (List ℕ) → Type 0 → Status → Type 0
+AnswersBehind q profile sought rest held now rose status = (t : List ℕ) → IsSoughtBy (input_of profile t) sought → rest_of_text t ≡ Some rest
+    → EndsWriting ((judgement_of (asked_of q)).tells (input_of profile t)) ((judgement_of (asked_of q)).begins (input_of profile t)) held now rose status

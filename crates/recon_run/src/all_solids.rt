@@ -1,25 +1,25 @@
-//! The form that lists all solids: the one answer that is written text by text.
+//! The answer that lists all solids, the one that is written text by text.
 //!
 //! Each solid's text is a call of the output of its own: so one is held at a time, and memory goes
 //! with the list of choices.
 
 ghost use Rattle.std.specs.Prelude.{◌≡◌, ◌≤◌, ℕ, List, [], ◌∷◌, length, take};
 ghost use Rattle.recon_run.specs.Answers.{BeginsAll, TellsAll, TellsSolid, TellsSolids};
-ghost use Rattle.recon_run.specs.Searched.{AnswersForm, FillSolids, search_head};
-ghost use Rattle.recon_run.specs.declared.form.Form.TheVariants as form;
+ghost use Rattle.recon_run.specs.Searched.{AnswersQuestion, FillSolids, search_head};
+ghost use Rattle.recon_run.specs.declared.question.Question.TheVariants as question;
 ghost use Rattle.replies.specs.Writings.{EndsText};
 ghost use Rattle.solid_model.specs.declared.cell.Cell.{Cell};
 ghost use Rattle.solid_model.specs.Limits.{most_decimals, most_solid_limit};
 ghost use Rattle.tv_base.specs.Faults.{Rose};
 
 use crate::crew::Crew;
-use crate::form::AllSolids;
 use crate::profile::Profile;
+use crate::question::AllSolids;
 use crate::searched::Searched;
 use crate::sought::Sought;
 use crate::telling::search_telling;
 use replies::{Answer, Failure, Status, write_text};
-use report::{SolidRoom, SolidTexts};
+use report::{SolidBuffers, SolidTexts};
 use solid_model::{Choice, Limits, Problem};
 use std::alloc::Global;
 use std::sync::Wait;
@@ -32,32 +32,32 @@ fn write_solid<K: Sink>(
     texts: &SolidTexts<'_>,
     number: u32,
     choice: &Choice,
-    room: &mut SolidRoom,
+    buffers: &mut SolidBuffers,
     sink: &mut K,
 ) -> Result<(), Failure>
-    requires { room.old.rows.sizes ≡ texts.now.problem.blocks.sizes }
-    ensures sizes { room.new.rows.sizes ≡ texts.now.problem.blocks.sizes }
+    requires { buffers.old.rows.sizes ≡ texts.now.problem.blocks.sizes }
+    ensures sizes { buffers.new.rows.sizes ≡ texts.now.problem.blocks.sizes }
     ensures later { K.faults sink.old ≤ K.faults sink.new }
     ensures ends { (s : List Cell) → FillSolids texts.now.problem (choice.now ∷ []) (s ∷ [])
         → EndsText (TellsSolid texts.now.decimals number choice.now s)
         (TellsSolid texts.now.decimals number choice.now s) (K.held sink.old) (K.held sink.new)
         (Rose (K.faults sink.old) (K.faults sink.new)) result }
 {
-    texts.tell(alloc, number, choice, room)?;
-    write_text(sink, room.text.as_slice())
+    texts.tell(alloc, number, choice, buffers)?;
+    write_text(sink, buffers.text.as_slice())
 }
 
 /// Writes the text of each solid that choices of a problem's blocks fill, numbered from 1, one
-/// after another in the same room.
+/// after another in the same buffers.
 fn write_solids<K: Sink>(
     alloc: Global,
     texts: &SolidTexts<'_>,
     choices: &[Choice],
-    room: &mut SolidRoom,
+    buffers: &mut SolidBuffers,
     sink: &mut K,
 ) -> Result<(), Failure>
     requires few { length choices.now ≤ most_solid_limit }
-    requires sizes { room.old.rows.sizes ≡ texts.now.problem.blocks.sizes }
+    requires sizes { buffers.old.rows.sizes ≡ texts.now.problem.blocks.sizes }
     ensures later { K.faults sink.old ≤ K.faults sink.new }
     ensures ends { (solids : List (List Cell)) → FillSolids texts.now.problem choices.now solids
         → EndsText (TellsSolids texts.now.decimals 1 choices.now solids)
@@ -66,7 +66,7 @@ fn write_solids<K: Sink>(
         (Rose (K.faults sink.old) (K.faults sink.new)) result }
 {
     for (place, choice) in choices.iter().enumerate() {
-        write_solid(alloc, texts, place as u32 + 1, choice, room, sink)?;
+        write_solid(alloc, texts, place as u32 + 1, choice, buffers, sink)?;
     }
     Ok(())
 }
@@ -93,9 +93,9 @@ pub fn write_listed<K: Sink>(
         return write_text(sink, head);
     }
     let texts = SolidTexts::of(alloc, problem, decimals)?;
-    let mut room = texts.room(alloc)?;
+    let mut buffers = texts.buffers(alloc)?;
     write_text(sink, head)?;
-    write_solids(alloc, &texts, choices, &mut room, sink)
+    write_solids(alloc, &texts, choices, &mut buffers, sink)
 }
 
 /// Writes how a search within limits ended, and its solids.
@@ -129,7 +129,7 @@ pub fn answer_all<R: Threads + Wait + Sync, G: Gate, K: Sink>(
     sought: Sought,
     sink: &mut K,
 ) -> Status
-    ensures { AnswersForm (form.AllSolids all.now) profile.now sought (K.held sink.old)
+    ensures { AnswersQuestion (question.AllSolids all.now) profile.now sought (K.held sink.old)
         (K.held sink.new) (Rose (K.faults sink.old) (K.faults sink.new)) result }
 {
     let limits = all.limits;

@@ -16,12 +16,12 @@ use crate::asked::answer_asked;
 use crate::blocks_told::answer_blocks;
 use crate::check::answer_check;
 use crate::crew::Crew;
-use crate::form::Form;
 use crate::found::{Found, find};
 use crate::found_problem::FoundProblem;
 use crate::log::answer_log;
 use crate::one_solid::answer_one;
 use crate::profile::Profile;
+use crate::question::Question;
 use replies::{Answer, Status, write_reply};
 use report::fault_text;
 use solid_model::Fault;
@@ -30,33 +30,33 @@ use std::sync::Wait;
 use std::thread::Threads;
 use tv_base::{Gate, Sink, Source};
 
-/// Writes what is answered in a form to an input that is read so and in which this is found; the
+/// Writes what answers a question about an input that is read so and in which this is found; the
 /// crew works at what is searched.
 fn answer_problem<R: Threads + Wait + Sync, G: Gate, K: Sink>(
     alloc: Global,
     crew: &Crew<'_, R, G>,
-    form: &Form,
+    question: &Question,
     profile: &Profile,
     found: FoundProblem,
     sink: &mut K,
 ) -> Status
-    ensures { AnswersBehind form.now profile.now found.sought found.rest.items
+    ensures { AnswersBehind question.now profile.now found.sought found.rest.items
         (K.held sink.old) (K.held sink.new) (Rose (K.faults sink.old) (K.faults sink.new)) result }
 {
     let FoundProblem { sought, rest } = found;
-    match form {
-        Form::AllSolids(all) => answer_all(alloc, crew, all, profile, sought, sink),
-        Form::OneSolid(one) => answer_one(alloc, crew, one, profile, sought, sink),
-        Form::Log(limits) => answer_log(alloc, crew, limits, profile, sought, sink),
-        Form::Check => answer_check(alloc, profile, &sought, rest.as_slice(), sink),
-        Form::Blocks => answer_blocks(alloc, profile, &sought, sink),
-        Form::Session(limits) => {
+    match question {
+        Question::AllSolids(all) => answer_all(alloc, crew, all, profile, sought, sink),
+        Question::OneSolid(one) => answer_one(alloc, crew, one, profile, sought, sink),
+        Question::Log(limits) => answer_log(alloc, crew, limits, profile, sought, sink),
+        Question::Check => answer_check(alloc, profile, &sought, rest.as_slice(), sink),
+        Question::Blocks => answer_blocks(alloc, profile, &sought, sink),
+        Question::Session(limits) => {
             answer_asked(alloc, crew, limits, profile, sought, rest.as_slice(), sink)
         }
     }
 }
 
-/// Writes what every form answers to an input that has a fault.
+/// Writes what answers every question about an input that has a fault.
 fn write_fault<K: Sink>(alloc: Global, fault: &Fault, sink: &mut K) -> Status
     ensures { EndsWriting (IsReply answers.Faulty (fault_text fault.now))
         (IsReply answers.Faulty (fault_text fault.now)) (K.held sink.old) (K.held sink.new)
@@ -65,16 +65,16 @@ fn write_fault<K: Sink>(alloc: Global, fault: &Fault, sink: &mut K) -> Status
     write_reply(Answer::Faulty, fault_text(alloc, fault)?.as_slice(), sink)
 }
 
-/// Reads what the source has left, and writes its first fault, or what the form answers.
+/// Reads what the source has left, and writes its first fault, or what answers the question.
 pub fn answer_source<R: Threads + Wait + Sync, G: Gate, S: Source, K: Sink>(
     alloc: Global,
     crew: &Crew<'_, R, G>,
     profile: &Profile,
-    form: &Form,
+    question: &Question,
     source: &mut S,
     sink: &mut K,
 ) -> Status
-    ensures ends { Ends (read profile.now (asked_of form.now)) (S.left source.old)
+    ensures ends { Ends (read profile.now (asked_of question.now)) (S.left source.old)
         (S.left source.new) (K.held sink.old) (K.held sink.new)
         (Rose (S.faults source.old) (S.faults source.new))
         (Rose (K.faults sink.old) (K.faults sink.new)) result }
@@ -83,7 +83,7 @@ pub fn answer_source<R: Threads + Wait + Sync, G: Gate, S: Source, K: Sink>(
 {
     let found = find(alloc, profile, source)?;
     match found {
-        Found::Problem(found) => answer_problem(alloc, crew, form, profile, found, sink),
+        Found::Problem(found) => answer_problem(alloc, crew, question, profile, found, sink),
         Found::Fault(fault) => write_fault(alloc, &fault, sink),
     }
 }

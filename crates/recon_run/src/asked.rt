@@ -1,4 +1,4 @@
-//! The form that lets readers look at the growing list of solids while they are searched for.
+//! The answer that lets readers look at the growing list of solids while they are searched for.
 
 ghost use Rattle.std.specs.Prelude.{◌≡◌, ◌≤◌, ℕ, List, Ok, length, map, take};
 ghost use Rattle.std.specs.Arc.{arc_value};
@@ -7,7 +7,7 @@ ghost use Rattle.recon_run.specs.Answers.{BeginsAll, TellsAll};
 ghost use Rattle.file_problem.specs.Inputs.{HasProblem, Input};
 ghost use Rattle.recon_run.specs.Readers.{AnswersScripts, BeginsScripts, ask_kind_name, page_text_of, tales_text};
 ghost use Rattle.recon_run.specs.Searched.{AnswersBehind, FillSolids, TellsEndOf};
-ghost use Rattle.recon_run.specs.declared.form.Form.TheVariants as form;
+ghost use Rattle.recon_run.specs.declared.question.Question.TheVariants as question;
 ghost use Rattle.replies.specs.Writings.{EndsText, EndsWriting};
 ghost use Rattle.search_end.specs.Stopped.{IsEndOf, end_solids};
 ghost use Rattle.solid_model.specs.declared.cell.Cell.{Cell};
@@ -174,7 +174,7 @@ pub fn answer_asked<R: Threads + Wait + Sync, G: Gate, K: Sink>(
     rest: &[u8],
     sink: &mut K,
 ) -> Status
-    ensures { AnswersBehind (form.Session limits.now) profile.now sought rest.now
+    ensures { AnswersBehind (question.Session limits.now) profile.now sought rest.now
         (K.held sink.old) (K.held sink.new) (Rose (K.faults sink.old) (K.faults sink.new)) result }
 {
     match asks_of(alloc, rest) {

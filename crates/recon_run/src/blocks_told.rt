@@ -1,7 +1,7 @@
-//! The form that tells where blocks are, without a search.
+//! The answer that tells where blocks are, without a search.
 
-ghost use Rattle.recon_run.specs.Searched.{AnswersForm};
-ghost use Rattle.recon_run.specs.declared.form.Form.TheVariants as form;
+ghost use Rattle.recon_run.specs.Searched.{AnswersQuestion};
+ghost use Rattle.recon_run.specs.declared.question.Question.TheVariants as question;
 ghost use Rattle.tv_base.specs.Faults.{Rose};
 
 use crate::profile::Profile;
@@ -18,7 +18,7 @@ pub fn answer_blocks<K: Sink>(
     sought: &Sought,
     sink: &mut K,
 ) -> Status
-    ensures { AnswersForm form.Blocks profile.now sought.now (K.held sink.old) (K.held sink.new)
+    ensures { AnswersQuestion question.Blocks profile.now sought.now (K.held sink.old) (K.held sink.new)
         (Rose (K.faults sink.old) (K.faults sink.new)) result }
 {
     let text = blocks_text(alloc, &sought.problem, profile.decimals())?;

@@ -1,17 +1,17 @@
-//! The form that judges what stands behind a drawing, without a search.
+//! The answer that judges what stands behind a drawing, without a search.
 
 ghost use Rattle.std.specs.Prelude.{◌≡◌, ◌≤◌, length, IfOk};
 ghost use Rattle.recon_run.specs.Answers.{log_kind_name};
 ghost use Rattle.recon_run.specs.Searched.{AnswersBehind, TellsRight, TellsWhichFit};
-ghost use Rattle.recon_run.specs.declared.form.Form.TheVariants as form;
+ghost use Rattle.recon_run.specs.declared.question.Question.TheVariants as question;
 ghost use Rattle.solid_model.specs.Limits.{most_text_bytes};
 ghost use Rattle.tv_base.specs.Faults.{Rose};
 
 use crate::profile::Profile;
 use crate::sought::Sought;
-use choice_sieves::sift;
 use dxf_entities::LayerSet;
 use fit_lanes::FurtherSieve;
+use page_calls::sift;
 use proof_check::{LogKind, LogRefused, check_log};
 use replies::{Answer, Failure, Status, write_reply};
 use report::{fitting_text, refusal_text, yes_text};
@@ -37,11 +37,7 @@ fn log_kind_name(kind: LogKind) -> &'static str
 
 /// What is said of a log that is right, which lists these choices, where further views and sections
 /// are read: how many of them fit, and which.
-fn fitting_part(
-    alloc: Global,
-    sought: &Sought,
-    choices: &[Choice],
-) -> Result<Vec<u8>, Memory>
+fn fitting_part(alloc: Global, sought: &Sought, choices: &[Choice]) -> Result<Vec<u8>, Memory>
     ensures { IfOk result (λ text. TellsWhichFit sought.now choices.now text.items) }
 {
     let mut sieve = FurtherSieve::of(alloc, &sought.problem, &sought.further)?;
@@ -76,7 +72,7 @@ pub fn answer_check<K: Sink>(
     sink: &mut K,
 ) -> Status
     requires { length rest.now ≤ most_text_bytes }
-    ensures { AnswersBehind form.Check profile.now sought.now rest.now (K.held sink.old)
+    ensures { AnswersBehind question.Check profile.now sought.now rest.now (K.held sink.old)
         (K.held sink.new) (Rose (K.faults sink.old) (K.faults sink.new)) result }
 {
     match check_log(alloc, &sought.problem, rest) {

@@ -17,8 +17,8 @@ ghost use Rattle.words.specs.Jobs.{IsCounted};
 use crate::answering::answer_source;
 use crate::crew::Crew;
 use crate::export::Export;
-use crate::form::{AllSolids, Form, OneSolid};
 use crate::profile::{Profile, layers_or};
+use crate::question::{AllSolids, OneSolid, Question};
 use crate::trial::{made_file, trial};
 use dxf_entities::LayerSet;
 use replies::{Answer, Failure, Status, code, write_reply};
@@ -62,8 +62,8 @@ fn do_job<R: Threads + Wait + Sync, S: Source, K: Sink, G: Gate>(
             let crew = Crew { rt, workers, gate };
             let layers = layers_or(sections, LayerSet::Six);
             let profile = Profile::drawing(layers, decimals, two_views);
-            let form = Form::AllSolids(AllSolids { limits, pages });
-            answer_source(alloc, &crew, &profile, &form, source, sink)
+            let question = Question::AllSolids(AllSolids { limits, pages });
+            answer_source(alloc, &crew, &profile, &question, source, sink)
         }
         Job::Redraw {
             which,
@@ -76,12 +76,12 @@ fn do_job<R: Threads + Wait + Sync, S: Source, K: Sink, G: Gate>(
             let crew = Crew { rt, workers, gate };
             let layers = layers_or(sections, LayerSet::Six);
             let profile = Profile::drawing(layers, decimals, two_views);
-            let form = Form::OneSolid(OneSolid {
+            let question = Question::OneSolid(OneSolid {
                 export: Export::Drawing,
                 which,
                 limits,
             });
-            answer_source(alloc, &crew, &profile, &form, source, sink)
+            answer_source(alloc, &crew, &profile, &question, source, sink)
         }
         Job::Stl {
             which,
@@ -93,12 +93,12 @@ fn do_job<R: Threads + Wait + Sync, S: Source, K: Sink, G: Gate>(
             let crew = Crew { rt, workers, gate };
             let layers = layers_or(sections, LayerSet::Main);
             let profile = Profile::drawing(layers, 0, two_views);
-            let form = Form::OneSolid(OneSolid {
+            let question = Question::OneSolid(OneSolid {
                 export: Export::Triangles,
                 which,
                 limits,
             });
-            answer_source(alloc, &crew, &profile, &form, source, sink)
+            answer_source(alloc, &crew, &profile, &question, source, sink)
         }
         Job::Prove {
             workers,
@@ -107,7 +107,7 @@ fn do_job<R: Threads + Wait + Sync, S: Source, K: Sink, G: Gate>(
         } => {
             let crew = Crew { rt, workers, gate };
             let profile = Profile::drawing(LayerSet::Main, 0, two_views);
-            answer_source(alloc, &crew, &profile, &Form::Log(limits), source, sink)
+            answer_source(alloc, &crew, &profile, &Question::Log(limits), source, sink)
         }
         Job::Check {
             two_views,
@@ -120,7 +120,7 @@ fn do_job<R: Threads + Wait + Sync, S: Source, K: Sink, G: Gate>(
             };
             let layers = layers_or(sections, LayerSet::Main);
             let profile = Profile::with_log(layers, two_views);
-            answer_source(alloc, &crew, &profile, &Form::Check, source, sink)
+            answer_source(alloc, &crew, &profile, &Question::Check, source, sink)
         }
         Job::Ask {
             workers,
@@ -129,7 +129,14 @@ fn do_job<R: Threads + Wait + Sync, S: Source, K: Sink, G: Gate>(
         } => {
             let crew = Crew { rt, workers, gate };
             let profile = Profile::drawing(LayerSet::Main, 0, two_views);
-            answer_source(alloc, &crew, &profile, &Form::Session(limits), source, sink)
+            answer_source(
+                alloc,
+                &crew,
+                &profile,
+                &Question::Session(limits),
+                source,
+                sink,
+            )
         }
         Job::Blocks {
             decimals,
@@ -141,7 +148,7 @@ fn do_job<R: Threads + Wait + Sync, S: Source, K: Sink, G: Gate>(
                 gate,
             };
             let profile = Profile::drawing(LayerSet::Main, decimals, two_views);
-            answer_source(alloc, &crew, &profile, &Form::Blocks, source, sink)
+            answer_source(alloc, &crew, &profile, &Question::Blocks, source, sink)
         }
         Job::Make { n } => write_reply(Answer::Done, made_file(alloc, n)?.as_slice(), sink),
         Job::Trial { n, workers } => {

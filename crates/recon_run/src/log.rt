@@ -1,9 +1,9 @@
-//! The form that shows that a search was complete.
+//! The answer that shows that a search was complete.
 
 ghost use Rattle.proof_log.specs.Few.{HasFewMatching};
 ghost use Rattle.recon_run.specs.Answers.{IsSomeLog};
-ghost use Rattle.recon_run.specs.Searched.{AnswersForm};
-ghost use Rattle.recon_run.specs.declared.form.Form.TheVariants as form;
+ghost use Rattle.recon_run.specs.Searched.{AnswersQuestion};
+ghost use Rattle.recon_run.specs.declared.question.Question.TheVariants as question;
 ghost use Rattle.replies.specs.Writings.{EndsText};
 ghost use Rattle.tv_base.specs.Faults.{Rose};
 
@@ -42,7 +42,7 @@ pub fn answer_log<R: Threads + Wait + Sync, G: Gate, K: Sink>(
     sought: Sought,
     sink: &mut K,
 ) -> Status
-    ensures { AnswersForm (form.Log limits.now) profile.now sought (K.held sink.old)
+    ensures { AnswersQuestion (question.Log limits.now) profile.now sought (K.held sink.old)
         (K.held sink.new) (Rose (K.faults sink.old) (K.faults sink.new)) result }
 {
     let Sought { problem, further } = sought;
@@ -52,8 +52,7 @@ pub fn answer_log<R: Threads + Wait + Sync, G: Gate, K: Sink>(
     let searched = found.fitting(alloc, &further)?;
     match searched.ended().kind {
         EndKind::Whole => {
-            // A look at the problem tells that its blocks are those of its grid.
-            let _grid = searched.problem().grid();
+            searched.problem().known();
             write_log(alloc, searched.problem(), sink)?;
             Ok(Answer::Done)
         }

@@ -1,16 +1,16 @@
-//! The form that writes one of the solids.
+//! The answer that writes one of the solids.
 
 ghost use Rattle.std.specs.Prelude.{List, ◌≤◌};
-ghost use Rattle.recon_run.specs.Searched.{AnswersForm, AnswersNumbered, FillSolids, writes_of};
-ghost use Rattle.recon_run.specs.declared.form.Form.TheVariants as form;
+ghost use Rattle.recon_run.specs.Searched.{AnswersQuestion, AnswersNumbered, FillSolids, writes_of};
+ghost use Rattle.recon_run.specs.declared.question.Question.TheVariants as question;
 ghost use Rattle.replies.specs.Writings.{EndsWriting};
 ghost use Rattle.solid_model.specs.declared.cell.Cell.{Cell};
 ghost use Rattle.solid_model.specs.Limits.{most_decimals};
 ghost use Rattle.tv_base.specs.Faults.{Rose};
 
 use crate::crew::Crew;
-use crate::form::OneSolid;
 use crate::profile::Profile;
+use crate::question::OneSolid;
 use crate::searched::{Searched, search_fitting};
 use crate::sought::Sought;
 use replies::{Answer, Status, write_reply};
@@ -60,7 +60,7 @@ pub fn answer_one<R: Threads + Wait + Sync, G: Gate, K: Sink>(
     sought: Sought,
     sink: &mut K,
 ) -> Status
-    ensures { AnswersForm (form.OneSolid one.now) profile.now sought (K.held sink.old)
+    ensures { AnswersQuestion (question.OneSolid one.now) profile.now sought (K.held sink.old)
         (K.held sink.new) (Rose (K.faults sink.old) (K.faults sink.new)) result }
 {
     let searched = search_fitting(alloc, sought, one.limits, crew)?;

@@ -17,11 +17,7 @@ const MOST_WITH_LOG: usize = 134_217_728;
 pub fn layers_or(sections: bool, layers: LayerSet) -> LayerSet
     ensures { result ≡ layers_or sections layers }
 {
-    if sections {
-        LayerSet::Sections
-    } else {
-        layers
-    }
+    if sections { LayerSet::Sections } else { layers }
 }
 
 /// The form in which these layers are read, with so many decimals.

@@ -7,9 +7,9 @@ ghost use Rattle.page_calls.specs.Pages.{CountsFaults, HasAllPaged, HasPaged};
 
 use crate::crew::Crew;
 use crate::sought::Sought;
-use choice_sieves::sift;
 use fit_lanes::FurtherSieve;
 use further_views::Further;
+use page_calls::sift;
 use report::head_text;
 use search_run::{NoPages, PageOut, RunFault, run_search};
 use solid_model::{Ended, Limits, Memory, Problem};

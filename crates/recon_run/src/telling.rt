@@ -15,7 +15,7 @@ use fit_lanes::FurtherSieve;
 use replies::Failure;
 use search_run::RunFault;
 use sink_pages::{Begun, SinkPages};
-use solid_model::{Axis, Limits, Memory};
+use solid_model::{Limits, Memory};
 use std::alloc::Global;
 use std::marker::Brand;
 use std::sync::{Arc, Wait};
@@ -50,9 +50,8 @@ fn told_from<R: Threads + Wait + Sync, K: Sink, G: Gate, B: Begun>(
         (Rose (K.faults sink) (K.faults result.0)) result.1 }
 {
     let Sought { problem, further } = sought;
-    // Looks at the problem tell that its blocks are those of its grid, and its grid a drawing's; one
-    // at the further views that their lists are lists of runs.
-    let _coordinates = problem.grid().coordinates(Axis::X);
+    problem.known();
+    // A look at the further views tells that their lists are lists of runs.
     let _asks = further.asks();
     let Ok(problem) = Arc::new(alloc, problem) else {
         return (sink, Err(Failure::Memory));

@@ -69,9 +69,9 @@ fn push_placed(
     Ok(())
 }
 
-/// Room for the text of a sheet: 100 bytes for each line, which is more than it can take, and 40
+/// The capacity for the text of a sheet: 100 bytes for each line, which is more than it can take, and 40
 /// for what stands around them.
-fn room_for(sheet: &PerView<ViewLines>) -> usize {
+fn capacity_for(sheet: &PerView<ViewLines>) -> usize {
     let mut lines: usize = 0;
     for view in [View::Front, View::Top, View::Side] {
         for upright in [false, true] {
@@ -88,7 +88,7 @@ fn sheet_text(alloc: Global, sheet: &PerView<ViewLines>, decimals: u8) -> Result
     requires decimals { decimals ≤ most_decimals }
     ensures { IfOk result (λ text. text.items ≡ sheet_text decimals sheet.now) }
 {
-    let mut text = Vec::with_capacity(alloc, room_for(sheet))?;
+    let mut text = Vec::with_capacity(alloc, capacity_for(sheet))?;
     push_pair(&mut text, "0", "SECTION")?;
     push_pair(&mut text, "2", "ENTITIES")?;
     push_placed(&mut text, sheet, View::Front, decimals)?;

@@ -9,7 +9,7 @@ use Rattle.solid_model.specs.Panels.{GridParts}
 use Rattle.solid_model.specs.Choices.{is_chosen, cells_of_choice}
 use Rattle.solid_model.specs.Grid.{Coordinates}
 use Rattle.solid_model.specs.PerAxis.{numbers_of}
-use Rattle.solid_model.specs.Rooms.{is_within, box_place, number_at}
+use Rattle.solid_model.specs.WalledBoxes.{is_within, box_place, number_at}
 use Rattle.solid_model.specs.Volumes.{grid_cell_volume, grid_cell_at}
 use Rattle.solid_model.proofs.SmallVolumes.{IsVolumeBelow, most_volume, with_chosen, without_chosen}
 use Rattle.cell_rows.proofs.FilledSpans.{block_marks}

@@ -13,7 +13,7 @@ use Rattle.solid_model.specs.Grid.{Coordinates, gaps_along}
 use Rattle.lemmas.specs.Lists.{Each, Ascends}
 use Rattle.solid_model.specs.Marks.{BoxMarks, is_marked}
 use Rattle.solid_model.specs.PerAxis.{numbers_of}
-use Rattle.solid_model.specs.Rooms.{is_within, box_place}
+use Rattle.solid_model.specs.WalledBoxes.{is_within, box_place}
 use Rattle.lemmas.proofs.Lists.{each-push}
 use Rattle.cell_rows.specs.declared.changed_planes.ChangedPlanes.{ChangedPlanes}
 use Rattle.cell_rows.specs.Planes.{AreSameBeside}

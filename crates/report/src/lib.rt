@@ -15,7 +15,7 @@ pub use faults::fault_text;
 pub use laws::{small_face_texts, small_fault_texts, small_search_texts};
 pub use plane_text::PlaneText;
 pub use plane_texts::PlaneTexts;
-pub use solid_texts::{SolidRoom, SolidTexts, solid_text};
+pub use solid_texts::{SolidBuffers, SolidTexts, solid_text};
 pub use text::{
     fitting_text, head_text, no_solid_text, page_text, reader_text, refusal_text, stopped_text,
     trial_text, yes_text,

@@ -21,7 +21,7 @@ ghost use Rattle.solid_model.specs.PerAxis.{numbers_of};
 
 use crate::plane_text::PlaneText;
 use cell_rows::{CellRows, ChangedPlanes};
-use solid_model::{Axis, Grid, Memory, Out, same_coordinates};
+use solid_model::{Grid, Memory, Out, same_coordinates};
 use std::alloc::Global;
 use std::marker::Model;
 use std::mem;
@@ -261,8 +261,7 @@ impl PlaneTexts {
         ensures { IfOk result (λ done. AreAllLines decimals (coordinates_of grid.now)
             cells.now.values self.new.planes) }
     {
-        // A look at the grid tells that its coordinates are in order.
-        let _ = grid.coordinates(Axis::X);
+        grid.known();
         self.put_on(alloc, grid, decimals)?;
         // Where memory ends in the middle, no lines are kept.
         let mut planes = mem::replace(&mut self.planes, Vec::new(alloc));

@@ -1,4 +1,4 @@
-//! The texts of solids, one after another in one room.
+//! The texts of solids, one after another in the same buffers.
 //!
 //! One solid's text is held at a time, with the lines of its planes and of the solid before it: so
 //! memory doesn't go with how many solids are told.
@@ -48,9 +48,9 @@ impl<'a> Model for SolidTexts<'a> {
         × (s.decimals ≤ most_decimals) };
 }
 
-/// Room for one solid at a time: its rows of cells, the lines of its faces, and its text.
+/// Buffers for one solid at a time: its rows of cells, the lines of its faces, and its text.
 #[derive(Debug, Drop)]
-pub struct SolidRoom {
+pub struct SolidBuffers {
     pub rows: CellRows,
     pub planes: PlaneTexts,
     pub text: Vec<u8>,
@@ -89,13 +89,13 @@ impl SolidTexts<'_> {
     ghost use Rattle.solid_model.specs.Panels.{coordinates_of};
     ghost use Rattle.solid_model.specs.Volumes.{volume_of};
 
-    /// Room for these texts. An `Err` is out of memory.
-    pub fn room(&self, alloc: Global) -> Result<SolidRoom, Memory>
-        ensures { IfOk result (λ room. room.rows.sizes ≡ self.now.problem.blocks.sizes) }
+    /// Buffers for these texts. An `Err` is out of memory.
+    pub fn buffers(&self, alloc: Global) -> Result<SolidBuffers, Memory>
+        ensures { IfOk result (λ buffers. buffers.rows.sizes ≡ self.now.problem.blocks.sizes) }
     {
         let rows = CellRows::blank(alloc, self.problem)?;
         let planes = PlaneTexts::of(alloc, self.problem.grid(), self.decimals)?;
-        Ok(SolidRoom {
+        Ok(SolidBuffers {
             rows,
             planes,
             text: Vec::new(alloc),
@@ -103,34 +103,36 @@ impl SolidTexts<'_> {
     }
 
     /// Makes the text of the solid of this number that a choice of the problem's blocks fills, in
-    /// the place of what the room held: a line `solid K choice C volume V faces F`, and then a line
-    /// for each face, `face D at P` with ` loop x,y,z x,y,z ..` for each of its loops. An `Err` is
-    /// out of memory.
+    /// the place of what the buffers held: a line `solid K choice C volume V faces F`, and then a
+    /// line for each face, `face D at P` with ` loop x,y,z x,y,z ..` for each of its loops. An `Err`
+    /// is out of memory.
     pub fn tell(
         &self,
         alloc: Global,
         number: u32,
         choice: &Choice,
-        room: &mut SolidRoom,
+        buffers: &mut SolidBuffers,
     ) -> Result<(), Memory>
-        requires { room.old.rows.sizes ≡ self.now.problem.blocks.sizes }
-        ensures sizes { room.new.rows.sizes ≡ self.now.problem.blocks.sizes }
+        requires { buffers.old.rows.sizes ≡ self.now.problem.blocks.sizes }
+        ensures sizes { buffers.new.rows.sizes ≡ self.now.problem.blocks.sizes }
         ensures text { OnOk result ((faces : List FaceParts)
             × ((full : Cell → Bool) → IsUnionOf (coordinates_of self.now.problem.grid)
             (cells_of_choice self.now.problem.blocks.numbers choice.now) full
             → AreFacesOf full faces)
-            × (room.new.text.items ≡ solid_text self.now.decimals number choice.now
+            × (buffers.new.text.items ≡ solid_text self.now.decimals number choice.now
             (volume_of (coordinates_of self.now.problem.grid)
             (cells_of_choice self.now.problem.blocks.numbers choice.now)) faces)) }
     {
-        room.rows.fill(&self.blocks, choice);
+        buffers.rows.fill(&self.blocks, choice);
         let grid = self.problem.grid();
-        room.planes.update(alloc, grid, self.decimals, &room.rows)?;
+        buffers
+            .planes
+            .update(alloc, grid, self.decimals, &buffers.rows)?;
         let volume = chosen_sum(self.volumes.as_slice(), choice);
-        let faces = room.planes.count();
-        room.text.clear();
-        push_solid_line(&mut room.text, number, choice, volume, faces)?;
-        room.planes.push(&mut room.text)?;
+        let faces = buffers.planes.count();
+        buffers.text.clear();
+        push_solid_line(&mut buffers.text, number, choice, volume, faces)?;
+        buffers.planes.push(&mut buffers.text)?;
         Ok(())
     }
 }
@@ -153,7 +155,7 @@ pub fn solid_text(
         (cells_of_choice problem.now.blocks.numbers choice.now)) faces)) }
 {
     let texts = SolidTexts::of(alloc, problem, decimals)?;
-    let mut room = texts.room(alloc)?;
-    texts.tell(alloc, number, choice, &mut room)?;
-    Ok(room.text)
+    let mut buffers = texts.buffers(alloc)?;
+    texts.tell(alloc, number, choice, &mut buffers)?;
+    Ok(buffers.text)
 }

@@ -6,7 +6,7 @@ use std::alloc::AllocError;
 use std::sync::atomic::{AtomicU64, Ordering};
 use std::test::Fail;
 use std::thread;
-use test_files::drawing_file;
+use test_files::{Slow, drawing_file};
 use tv_base::{Gate, MemSink, MemSource, Point, Sink, SinkError};
 
 /// The eight voids: 35 solids, 109 nodes.
@@ -16,29 +16,8 @@ const EIGHT_VOIDS: [&str; 3] = ["lattice 2 2"; 3];
 const TWICE_EIGHT_VOIDS: [&str; 3] = ["\
 lattice 2 2, rect S 6 6 11 11, rect D 7 7 8 8, rect D 9 7 10 8, rect D 7 9 8 10, rect D 9 9 10 10"; 3];
 
-/// A worker is held for so many turns before each expansion. A turn is one yield.
-const TURNS: u32 = 20_000;
-
 /// In so many runs a reader asked to stop before the search had ended.
 const RUNS: u32 = 40;
-
-/// Holds each worker for some turns at an expansion's beginning, and counts how often.
-#[derive(Drop)]
-struct Slow {
-    held: AtomicU64,
-}
-
-impl Gate for Slow {
-    fn pass(&self, _worker: u32, point: Point) {
-        if point != Point::BeforeExpand {
-            return;
-        }
-        for _ in 0..TURNS {
-            thread::yield_now();
-        }
-        self.held.fetch_add(1, Ordering::SeqCst);
-    }
-}
 
 /// Whether this is the status and the text of a search that was stopped: as many solids as its first
 /// line tells.
@@ -57,15 +36,13 @@ fn is_stopped(wrote: &str) -> bool {
 /// Whether a run was stopped in which a reader asks for that while workers are held, and another one
 /// waits for more solids than there are; and some worker was held.
 fn stops<R: Runtime>(rt: &R) -> Result<bool, Fail> {
-    let gate = Slow {
-        held: AtomicU64::new(0),
-    };
+    let gate = Slow::new();
     let mut file = drawing_file(rt.alloc(), EIGHT_VOIDS)?;
     file.push_str("readers 2\n0 wait 65536\n1 stop\ngo\n")?;
     let mut source = MemSource::new(file.into_bytes(), Vec::new(rt.alloc()));
     let sink = MemSink::new(Vec::new(rt.alloc()));
     let wrote = run_gated(rt, "ask|--workers=2|", &mut source, sink, &gate)?;
-    Ok(gate.held.load(Ordering::SeqCst) > 0 && is_stopped(wrote.as_str()))
+    Ok(gate.has_held() && is_stopped(wrote.as_str()))
 }
 
 /// Whether one of some runs was.

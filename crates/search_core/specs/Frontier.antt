@@ -44,4 +44,4 @@ pub record FrontierParts : Type 0 where
   pub put : List ℕ
   pub counts : List ℕ
   pub ahead : List ℕ
-  pub room : ℕ
+  pub capacity : ℕ

@@ -8,9 +8,9 @@ use Rattle.search_core.specs.Ledger.{next_first}
 use Rattle.prefix_tree.specs.Places.{prefix_at, StandsAt}
 
 -- the ledger has room for it
-pub record HasRoom (b : Ledger) (e : Posting) : Type 0 where
+pub record HasCapacity (b : Ledger) (e : Posting) : Type 0 where
   pub places : Each (λ k. k < length b.frontier.counts) e.rest.items
-  pub put : length b.frontier.put + length e.rest.items ≤ b.frontier.room
+  pub put : length b.frontier.put + length e.rest.items ≤ b.frontier.capacity
   pub notes : vec_len b.notes < vec_capacity b.notes
   pub found : vec_len b.found + vec_len e.found ≤ vec_capacity b.found
 
@@ -26,4 +26,4 @@ pub record IsPosting (b : Ledger) (piece : ℕ) (choices prefixes : List (List B
   pub below : Each (λ k. k < length b.prefixes) e.rest.items
   pub next : (placed_or b.first e.first).place ≡ next_first b piece e.rest.items
   pub first : StandsAt b.prefixes (placed_or b.first e.first).prefix (placed_or b.first e.first).place
-  pub room : HasRoom b e
+  pub capacity : HasCapacity b e

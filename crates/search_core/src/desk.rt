@@ -1,9 +1,9 @@
 //! The desk of a search.
 //!
-//! A stranger is told by its grid, since equal grids have equal blocks (`one_numbering_of_rooms`),
-//! whose numbers then aren't compared under the lock. Out of memory comes only where a report would
-//! be taken: a stranger's, a late one and one whose piece is gone are told so, whatever memory
-//! there is.
+//! A stranger is told by its grid, since equal grids have equal blocks
+//! (`one_numbering_of_components`), whose numbers then aren't compared under the lock. Out of memory
+//! comes only where a report would be taken: a stranger's, a late one and one whose piece is gone
+//! are told so, whatever memory there is.
 
 ghost use Rattle.std.specs.Prelude.{◌≡◌, Bool, List, length, take};
 ghost use Rattle.search_core.specs.Core.{end_after};
@@ -178,6 +178,13 @@ impl Desk {
             by,
         } = report;
         self.answer(expansion, Some(copies), by)
+    }
+
+    /// It stands as its history leaves it.
+    pub fn known(&self)
+        ensures { IsDesk self.now }
+    {
+        let _ = &self.end;
     }
 
     /// How the search has ended, if it has.

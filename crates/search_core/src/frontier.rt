@@ -86,7 +86,7 @@ impl Model for Frontier {
       put = s.put.items;
       counts = s.counts.items;
       ahead = drop s.first s.put.items;
-      room = min (vec_capacity s.put) most_puts;
+      capacity = min (vec_capacity s.put) most_puts;
     } };
 
     ghost invariant = { λ s. IsFrontier s.put.items s.counts.items s.first };
@@ -116,7 +116,7 @@ impl Frontier {
         ensures counts { (k : ℕ) → count_of self.new.counts k ≡ count_of self.old.counts k }
         ensures ahead { self.new.ahead ≡ self.old.ahead }
         ensures places { OnOk result (places ≤ length self.new.counts) }
-        ensures room { OnOk result (length self.new.put + more ≤ self.new.room) }
+        ensures capacity { OnOk result (length self.new.put + more ≤ self.new.capacity) }
     {
         if self.put.len().saturating_add(more) > u32::MAX as usize {
             return Err(Memory);
@@ -167,13 +167,13 @@ impl Frontier {
     /// A place stands in it once more.
     pub fn put(&mut self, place: u32)
         requires place { place < length self.old.counts }
-        requires room { length self.old.put < self.old.room }
+        requires capacity { length self.old.put < self.old.capacity }
         ensures put { self.new.put ≡ self.old.put ++ place ∷ [] }
         ensures ahead { self.new.ahead ≡ self.old.ahead ++ place ∷ [] }
         ensures counts { (k : ℕ) → count_of self.new.counts k
             ≡ (if k == place then count_of self.old.counts k + 1 else count_of self.old.counts k) }
         ensures places { length self.new.counts ≡ length self.old.counts }
-        ensures room { self.new.room ≡ self.old.room }
+        ensures capacity { self.new.capacity ≡ self.old.capacity }
     {
         self.put.push_reserved(place);
         self.counts[place as usize] += 1;
@@ -188,7 +188,7 @@ impl Frontier {
         ensures counts { (k : ℕ) → count_of self.new.counts k
             ≡ count_without self.old.counts place k }
         ensures places { length self.new.counts ≡ length self.old.counts }
-        ensures room { self.new.room ≡ self.old.room }
+        ensures capacity { self.new.capacity ≡ self.old.capacity }
     {
         self.first = first_without(
             self.put.as_slice(),

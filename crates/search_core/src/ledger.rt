@@ -11,7 +11,7 @@ ghost use Rattle.lemmas.specs.Lists.{Each};
 ghost use Rattle.lemmas.specs.Counts.{times_listed};
 ghost use Rattle.search_core.specs.Ledger.{ledger_of, next_first, IsBegun, HasGrown, HasPosted, KnowsFirst};
 ghost use Rattle.search_core.specs.Copies.{AreCopies};
-ghost use Rattle.search_core.specs.Postings.{HasRoom, IsPosting, placed_or};
+ghost use Rattle.search_core.specs.Postings.{HasCapacity, IsPosting, placed_or};
 ghost use Rattle.prefix_tree.specs.Places.{StandsAt};
 ghost use Rattle.search_core.specs.Frontier.{count_of};
 
@@ -79,7 +79,7 @@ fn renew(placed: &mut Placed, other: Option<Placed>)
 /// Puts all these places.
 fn put_all(frontier: &mut Frontier, rest: &[u32])
     requires places { Each (λ k. k < length frontier.old.counts) rest.now }
-    requires room { length frontier.old.put + length rest.now ≤ frontier.old.room }
+    requires capacity { length frontier.old.put + length rest.now ≤ frontier.old.capacity }
     ensures put { frontier.new.put ≡ frontier.old.put ++ rest.now }
     ensures ahead { frontier.new.ahead ≡ frontier.old.ahead ++ rest.now }
     ensures counts { (k : ℕ) → count_of frontier.new.counts k
@@ -125,8 +125,7 @@ impl Ledger {
             (λ k. StandsAt self.now.prefixes piece.now k
             × (0 < count_of self.now.frontier.counts k)) }
     {
-        // A look at the prefixes tells that each is stored once.
-        let _count = self.prefixes.len();
+        self.prefixes.known();
         let place = self.prefixes.place(piece, by)?;
         if self.frontier.holds(place) {
             Some(place)
@@ -180,8 +179,7 @@ impl Ledger {
         ensures first { KnowsFirst self.new }
         ensures posting { IfOk result (IsPosting self.new piece found.now rest.now) }
     {
-        // A look at the prefixes tells that each is stored once.
-        let _count = self.prefixes.len();
+        self.prefixes.known();
         let alloc = *self.notes.allocator();
         let Copies {
             found,
@@ -201,7 +199,7 @@ impl Ledger {
     /// Notes a report of a piece of the frontier.
     pub fn post(&mut self, piece: u32, opened: u32, posting: Posting)
         requires piece { 0 < count_of self.old.frontier.counts piece }
-        requires room { HasRoom self.old posting }
+        requires capacity { HasCapacity self.old posting }
         requires known { KnowsFirst self.old }
         requires rest { Each (λ k. k < length self.old.prefixes) posting.rest.items }
         requires first { StandsAt self.old.prefixes

@@ -31,8 +31,7 @@ fn try_piece(
     ensures way { OnOk result (IsWayOf desk.new.problem path.new) }
     ensures goes_on { OnOk result (DeskGoesOn desk.old desk.new) }
 {
-    // A look at the desk tells that it stands as its history leaves it.
-    let _end = desk.end();
+    desk.known();
     let Some(expansion) = expand_from(alloc, path, desk.problem(), piece, QUANTUM)? else {
         return Ok(());
     };
@@ -83,8 +82,7 @@ fn step(alloc: Global, path: &mut BlockPath, desk: &mut Desk) -> Result<(), Memo
     ensures opened { OnOk result (desk.old.opened < desk.new.opened) }
     ensures kept { OnOk result (IsDesk desk.new) }
 {
-    // A look at the desk tells that it stands as its history leaves it.
-    let _end = desk.end();
+    desk.known();
     let Some(piece) = desk.first_piece() else {
         unreachable!()
     };
@@ -116,8 +114,7 @@ pub fn go_on(
     ensures end { IfOk result (λ r. r.0.end ≡ Some r.1) }
     ensures kept { IfOk result (λ r. IsDesk r.0) }
 {
-    // A look at the problem tells that its blocks are those of its grid.
-    let _grid = problem.grid();
+    problem.known();
     let mut desk = desk;
     loop {
         if let Some(kind) = desk.end() {

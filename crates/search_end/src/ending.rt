@@ -23,7 +23,7 @@ use crate::turns::{Mark, in_order};
 use page_calls::{PageOut, RunFault};
 use search_core::Desk;
 use search_tree::BlockPath;
-use solid_model::{Axis, Choice, Ended, Limits, Memory, Problem};
+use solid_model::{Choice, Ended, Limits, Memory, Problem};
 use std::alloc::Global;
 use std::sync::Arc;
 
@@ -116,8 +116,7 @@ fn rest_of(
     ensures all { IfOk result (λ left. handed.now.choices ≡ []
         → handed.now.choices ++ left.items ≡ desk.now.found) }
 {
-    // Looks at the problem tell that its blocks are those of its grid, and its grid a drawing's.
-    let _coordinates = problem.grid().coordinates(Axis::X);
+    problem.known();
     let room = limits.solids as usize - handed.choices().len();
     let left = left_over(alloc, handed.choices(), desk.found(), room)?;
     Ok(left)
@@ -141,8 +140,7 @@ fn end_at(
     ensures moved { IfOk result (λ e. IsPermutation list.items (end_solids e)) }
     ensures found { IfOk result (λ e. end_found e ≡ desk.found) }
 {
-    // Looks at the problem tell that its blocks are those of its grid, and its grid a drawing's.
-    let _coordinates = problem.grid().coordinates(Axis::X);
+    problem.known();
     let opened = desk.opened();
     let solids = in_order(alloc, list, marks)?;
     match desk.end() {

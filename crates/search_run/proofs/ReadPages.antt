@@ -5,7 +5,7 @@ use Rattle.solid_model.specs.Blocks.{ProblemParts}
 use Rattle.solid_model.specs.Solutions.{AreSolutions}
 use Rattle.solution_book.specs.Editions.{EditionParts, ReaderParts, Begins, Looked}
 use Rattle.solution_book.proofs.Pages.{starts_on}
-use Rattle.search_run.specs.Reading.{IsReadUpTo}
+use Rattle.search_run.specs.HandedOut.{IsReadUpTo}
 use Rattle.search_end.proofs.PageCalls.{solutions_left}
 
 -- what was handed out are solutions

@@ -69,11 +69,11 @@ works_by s t k first h = worked_on first s t h k
 -- what an owner's calls answer
 abbrev pub Took : OwnerState → OwnerState → Option Piece → Type 0
 Took o n r = MatchOption r ((n ≡ o) × Held [] (owner_account o))
-    (λ piece. (n ≡ record { deque = o.deque; room = o.room; parts = o.parts; put = o.put; taken = o.taken ++ piece ∷ [] }) × WasFirst (piece ∷ []) (owner_account o))
+    (λ piece. (n ≡ record { deque = o.deque; capacity = o.capacity; parts = o.parts; put = o.put; taken = o.taken ++ piece ∷ [] }) × WasFirst (piece ∷ []) (owner_account o))
 
 abbrev pub Gave : {A : Type 0} → OwnerState → OwnerState → Piece → Result A Piece → Type 0
-Gave o n piece r = MatchResult r (λ _. n ≡ record { deque = o.deque; room = o.room; parts = o.parts; put = o.put ++ piece ∷ []; taken = o.taken })
-    (λ back. (back ≡ piece) × (n ≡ o) × (o.room ≤ length o.put))
+Gave o n piece r = MatchResult r (λ _. n ≡ record { deque = o.deque; capacity = o.capacity; parts = o.parts; put = o.put ++ piece ∷ []; taken = o.taken })
+    (λ back. (back ≡ piece) × (n ≡ o) × (o.capacity ≤ length o.put))
 
 module _ (o n : OwnerState) (ts : List ThiefState) where
   abbrev before : SeatState

@@ -1,3 +1,3 @@
 pub mod Shared
-pub mod Reading
+pub mod HandedOut
 pub mod Worked

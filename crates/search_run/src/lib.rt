@@ -2,9 +2,9 @@
 #![tactic(auto)]
 
 mod bench;
+mod monitor;
 mod opening;
 mod paging;
-mod room;
 mod running;
 mod search;
 mod shared;
@@ -13,9 +13,9 @@ mod worker;
 mod working;
 mod workshop;
 
+pub use monitor::Monitor;
 pub use opening::{Opened, open_at, readers_of};
 pub use page_calls::{NoPages, PageOut, RunFault};
-pub use room::Room;
 pub use running::run_search;
 pub use search::{Search, SearchSeat};
 pub use search_end::SearchEnd;

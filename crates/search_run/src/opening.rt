@@ -7,7 +7,7 @@ ghost use Rattle.lemmas.specs.Lists.{Each};
 ghost use Rattle.query_session.specs.Tales.{IsReaderOf};
 ghost use Rattle.search_tree.specs.BlockPaths.{IsWayOf};
 
-use crate::room::Room;
+use crate::monitor::Monitor;
 use crate::shared::Shared;
 use search_core::Desk;
 use search_end::set_up;
@@ -73,9 +73,9 @@ pub fn readers_of<B: Wait + Drop>(
     Ok(own)
 }
 
-/// A room for so many workers at a desk, with its book, and so many readers of that, who read it or
-/// don't. An `Err` is out of memory.
-fn room_for<'a, R: Wait>(
+/// A monitor for so many workers at a desk, with its book, and so many readers of that, who read it
+/// or don't. An `Err` is out of memory.
+fn monitor_for<'a, R: Wait>(
     rt: &'a R,
     alloc: Global,
     problem: &Arc<Problem>,
@@ -83,14 +83,14 @@ fn room_for<'a, R: Wait>(
     readers: u32,
     is_read: bool,
     desk: Desk,
-) -> Result<(Room<&'a R>, Vec<BookReader<&'a R>>), Memory>
+) -> Result<(Monitor<&'a R>, Vec<BookReader<&'a R>>), Memory>
     requires problem { desk.problem ≡ arc_value problem.now }
     requires readers { (1 ≤ readers) × (readers ≤ 16) }
     ensures { IfOk result (λ r. length r.1.items ≡ readers) }
 {
     let (book, others) = Book::begin(rt, alloc, Arc::try_clone(problem)?, readers)?;
     Ok((
-        Room::new(Shared::new(alloc, desk, book, is_read, workers)),
+        Monitor::new(Shared::new(alloc, desk, book, is_read, workers)),
         others,
     ))
 }
@@ -104,7 +104,7 @@ pub struct Opened<'p, 'a, R: Wait> {
     /// A seat for each worker.
     pub seats: Vec<WorkerSeat>,
     /// Where all meet.
-    pub room: Room<&'a R>,
+    pub monitor: Monitor<&'a R>,
     /// Readers of its book.
     pub readers: Vec<BookReader<&'a R>>,
     /// Whether its desk has no end yet: else nobody needs to start.
@@ -131,11 +131,11 @@ pub fn open_at<'p, 'a, R: Wait>(
     let (path, desk) = set_up(alloc, problem, limits)?;
     let seats = seats_at(alloc, workers, &desk)?;
     let goes_on = desk.end().is_none();
-    let (room, readers) = room_for(rt, alloc, problem, workers, readers, is_read, desk)?;
+    let (monitor, readers) = monitor_for(rt, alloc, problem, workers, readers, is_read, desk)?;
     Ok(Opened {
         path,
         seats,
-        room,
+        monitor,
         readers,
         goes_on,
     })

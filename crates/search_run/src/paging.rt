@@ -4,7 +4,7 @@ ghost use Rattle.std.specs.Prelude.{◌≡◌, ◌≤◌, [], length, IsTrue, On
 ghost use Rattle.std.specs.Arc.{arc_value};
 ghost use Rattle.search_end.specs.Handed.{BreaksOff, HandsOn, PagesOn};
 ghost use Rattle.page_calls.specs.Pages.{CountsFaults};
-ghost use Rattle.search_run.specs.Reading.{IsReadUpTo};
+ghost use Rattle.search_run.specs.HandedOut.{IsReadUpTo};
 
 use crate::workshop::Workshop;
 use page_calls::{PageOut, RunFault};
@@ -86,7 +86,7 @@ fn page_on<B: Wait + Drop, R: Wait, G: Gate, P: PageOut>(
                 if last {
                     return Ok(handed);
                 }
-                let news = shop.room.wait_for_news(rt, seen);
+                let news = shop.monitor.wait_for_news(rt, seen);
                 seen = news.published;
                 last = news.last;
             }

@@ -66,7 +66,7 @@ fn search_together<'a, 's, R: Threads + Wait + Sync, G: Gate, P: PageOut>(
             start_workers(scope, rt, alloc, shop, path, seats);
             let handed = page_all(rt, alloc, shop, readers, lent);
             if handed.is_err() {
-                shop.room.halt(rt);
+                shop.monitor.halt(rt);
             }
             (lent, handed)
         },
@@ -106,7 +106,7 @@ pub fn run_search<R: Threads + Wait + Sync, G: Gate, P: PageOut>(
     let Opened {
         path,
         seats,
-        room,
+        monitor,
         readers,
         goes_on,
     } = opened;
@@ -115,7 +115,7 @@ pub fn run_search<R: Threads + Wait + Sync, G: Gate, P: PageOut>(
         let shop = Workshop {
             problem: &problem,
             limits,
-            room: &room,
+            monitor: &monitor,
             gate,
             workers,
         };
@@ -123,7 +123,7 @@ pub fn run_search<R: Threads + Wait + Sync, G: Gate, P: PageOut>(
     };
     match handed {
         Ok(handed) => {
-            let (desk, marks) = room.into_desk();
+            let (desk, marks) = monitor.into_desk();
             finish(alloc, &problem, limits, desk, &marks, handed, pages)
         }
         Err(fault) => Err(fault),

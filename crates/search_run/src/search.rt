@@ -14,8 +14,8 @@ ghost use Rattle.search_end.specs.Stopped.{IsEndOf, ListsFound, WasStopped};
 ghost use Rattle.search_run.specs.Worked.{HasWorked};
 ghost use Rattle.steal_pool.specs.WorkerSeats.{state_of};
 
+use crate::monitor::Monitor;
 use crate::opening::{Opened, open_at, readers_of};
-use crate::room::Room;
 use crate::working::work_at_seat;
 use crate::workshop::Workshop;
 use page_calls::NoPages;
@@ -41,7 +41,7 @@ pub struct Search<B: Wait + Drop> {
     problem: Arc<Problem>,
     limits: Limits,
     workers: u32,
-    room: Room<B>,
+    monitor: Monitor<B>,
 }
 
 /// The same seats, each as one of a search. An `Err` is out of memory.
@@ -76,7 +76,7 @@ impl<'a, R: Wait> Search<&'a R> {
     {
         let Opened {
             seats,
-            room,
+            monitor,
             readers: others,
             ..
         } = open_at(rt, alloc, &problem, limits, workers, readers, true)?;
@@ -86,7 +86,7 @@ impl<'a, R: Wait> Search<&'a R> {
             problem,
             limits,
             workers,
-            room,
+            monitor,
         };
         Ok((search, seats, others))
     }
@@ -108,7 +108,7 @@ impl<B: Wait + Drop> Search<B> {
         let shop = Workshop {
             problem: &self.problem,
             limits: self.limits,
-            room: &self.room,
+            monitor: &self.monitor,
             gate,
             workers: self.workers,
         };
@@ -119,7 +119,7 @@ impl<B: Wait + Drop> Search<B> {
 
     /// A worker that couldn't be started stops counting; its work is done by others.
     pub fn leave<R: Wait>(&self, rt: &R) {
-        self.room.leave(rt);
+        self.monitor.leave(rt);
     }
 
     /// Ends it, once all workers have returned, and given all its seats. Where it is to go on, the
@@ -139,8 +139,8 @@ impl<B: Wait + Drop> Search<B> {
         ensures found { IfOk result ListsFound }
     {
         drop(seats);
-        let Search { room, .. } = self;
-        let (desk, marks) = room.into_desk();
+        let Search { monitor, .. } = self;
+        let (desk, marks) = monitor.into_desk();
         let handed = Handed::new(alloc);
         match end_search(
             alloc,
@@ -162,11 +162,11 @@ impl<B: Wait + Drop> Waiter for Search<B> {
     /// Returns once so many solids are published, the desk has ended, it is stopped or no worker is
     /// at work.
     fn wait_for<R: Wait>(&self, rt: &R, count: usize) {
-        self.room.wait_for(rt, count);
+        self.monitor.wait_for(rt, count);
     }
 
     /// Sets the mark at which workers leave. The desk stays as it is, so that `finish` may go on.
     fn stop<R: Wait>(&self, rt: &R) {
-        self.room.halt(rt);
+        self.monitor.halt(rt);
     }
 }

@@ -146,9 +146,8 @@ impl<B: Wait + Drop> Shared<B> {
 
     /// Takes a report. An `Err` is out of memory.
     fn note(&mut self, report: ReadyReport) -> Result<Reported, Memory> {
-        // Looks at the problem and the desk tell that the desk stands as its history leaves it.
-        let _grid = self.desk.problem().grid();
-        let _end = self.desk.end();
+        self.desk.problem().known();
+        self.desk.known();
         match self.desk.report_ready(report) {
             Ok(answer) => Ok(answer),
             Err(_) => Err(Memory),
@@ -169,8 +168,7 @@ impl<B: Wait + Drop> Shared<B> {
 
     /// Publishes what is found and not yet published. An `Err` is out of memory.
     fn publish_new(&mut self, alloc: Global) -> Result<(), Memory> {
-        // A look at the problem tells that its blocks are those of its grid.
-        let _grid = self.desk.problem().grid();
+        self.desk.problem().known();
         let published = self.book.published();
         let found = self.desk.found();
         if published < found.len() {

@@ -35,7 +35,7 @@ pub fn start_workers<'t, 'e, 's, R: Wait + Sync, B: Wait + Drop + Send, G: Gate>
             { drop(work_at_seat(rt, alloc, shop, own, number, seat)) },
         );
         if started.is_err() {
-            shop.room.leave(rt);
+            shop.monitor.leave(rt);
         }
         number = number.saturating_add(1);
     }

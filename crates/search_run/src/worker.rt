@@ -3,7 +3,7 @@
 ghost use Rattle.search_run.specs.Worked.{WorksOn};
 
 use crate::bench::Bench;
-use crate::room::Room;
+use crate::monitor::Monitor;
 use search_end::keep_all;
 use solid_model::Prefix;
 use std::alloc::Global;
@@ -28,17 +28,17 @@ pub struct Worker {
 /// before it looks. `None`: nothing is left to be done or nobody is at work, and it leaves.
 fn find_or_wait<B: Wait + Drop, R: Wait>(
     rt: &R,
-    room: &Room<B>,
+    monitor: &Monitor<B>,
     bench: &mut Bench,
 ) -> Option<Prefix>
     ensures { WorksOn bench.old bench.new }
 {
-    let mut seen = room.changes(rt);
+    let mut seen = monitor.changes(rt);
     for _ in rt.forever() {
         if let Some(piece) = bench.find(rt) {
             return Some(piece);
         }
-        seen = room.wait(rt, seen)?;
+        seen = monitor.wait(rt, seen)?;
     }
     unreachable!()
 }
@@ -46,7 +46,7 @@ fn find_or_wait<B: Wait + Drop, R: Wait>(
 /// The same, where the worker looks first before it is idle.
 fn find_or_idle<B: Wait + Drop, R: Wait>(
     rt: &R,
-    room: &Room<B>,
+    monitor: &Monitor<B>,
     bench: &mut Bench,
 ) -> Option<Prefix>
     ensures { WorksOn bench.old bench.new }
@@ -54,9 +54,9 @@ fn find_or_idle<B: Wait + Drop, R: Wait>(
     if let Some(piece) = bench.find(rt) {
         return Some(piece);
     }
-    room.begin_idle();
-    let piece = find_or_wait(rt, room, bench);
-    room.end_idle();
+    monitor.begin_idle();
+    let piece = find_or_wait(rt, monitor, bench);
+    monitor.end_idle();
     piece
 }
 
@@ -104,14 +104,18 @@ impl Worker {
 
     /// The piece with which it goes on: the last one that it keeps, or else one of the pool.
     /// `None`: nothing is left to be done or nobody is at work, and it leaves.
-    pub fn next_piece<B: Wait + Drop, R: Wait>(&mut self, rt: &R, room: &Room<B>) -> Option<Prefix>
+    pub fn next_piece<B: Wait + Drop, R: Wait>(
+        &mut self,
+        rt: &R,
+        monitor: &Monitor<B>,
+    ) -> Option<Prefix>
         ensures { WorksOn self.old self.new }
     {
         match self.kept.pop_back() {
             Some(piece) => Some(piece),
             None => {
-                self.turn = room.begin_turn();
-                find_or_idle(rt, room, &mut self.bench)
+                self.turn = monitor.begin_turn();
+                find_or_idle(rt, monitor, &mut self.bench)
             }
         }
     }
@@ -132,13 +136,13 @@ impl Worker {
 
     /// Gives a piece to each idle worker, as long as it keeps as many itself: the shallowest ones,
     /// which have most below them.
-    pub fn share<B: Wait + Drop, R: Wait>(&mut self, rt: &R, room: &Room<B>)
+    pub fn share<B: Wait + Drop, R: Wait>(&mut self, rt: &R, monitor: &Monitor<B>)
         ensures { WorksOn self.old self.new }
     {
-        let wanted = room.idle().min(self.kept.len() / 2);
+        let wanted = monitor.idle().min(self.kept.len() / 2);
         let given = self.bench.give(&mut self.kept, wanted);
         if given > 0 {
-            room.signal(rt, given);
+            monitor.signal(rt, given);
         }
     }
 
@@ -146,7 +150,7 @@ impl Worker {
     pub fn leave_to_others<B: Wait + Drop, R: Wait>(
         &mut self,
         rt: &R,
-        room: &Room<B>,
+        monitor: &Monitor<B>,
         piece: Prefix,
     )
         ensures { WorksOn self.old self.new }
@@ -154,6 +158,6 @@ impl Worker {
         self.keep(piece);
         let count = self.kept.len();
         self.bench.give(&mut self.kept, count);
-        room.leave(rt);
+        monitor.leave(rt);
     }
 }

@@ -7,7 +7,7 @@ ghost use Rattle.search_run.specs.Worked.{HasWorked, WorksOn};
 ghost use Rattle.search_tree.specs.BlockPaths.{IsWayOf};
 ghost use Rattle.steal_pool.specs.WorkerSeats.{state_of};
 
-use crate::room::Room;
+use crate::monitor::Monitor;
 use crate::worker::Worker;
 use crate::workshop::Workshop;
 use search_core::ReadyReport;
@@ -40,7 +40,7 @@ fn work_at<B: Wait + Drop, R: Wait, G: Gate>(
     let Ok(report) = ReadyReport::new(alloc, expansion, worker as usize) else {
         return Err(Memory);
     };
-    let rest = shop.room.report(rt, alloc, report, turn)?;
+    let rest = shop.monitor.report(rt, alloc, report, turn)?;
     shop.gate.pass(worker, Point::AfterReport);
     Ok(rest)
 }
@@ -58,17 +58,17 @@ fn go_round<B: Wait + Drop, R: Wait, G: Gate>(
     ensures worked { WorksOn worker.old worker.new }
 {
     for _ in rt.forever() {
-        let Some(piece) = worker.next_piece(rt, shop.room) else {
+        let Some(piece) = worker.next_piece(rt, shop.monitor) else {
             return;
         };
         let (number, turn) = (worker.number(), worker.turn());
         match work_at(rt, alloc, shop, path, number, turn, &piece) {
             Ok(Some(rest)) => {
                 worker.keep_rest(rest);
-                worker.share(rt, shop.room);
+                worker.share(rt, shop.monitor);
             }
-            Ok(None) => return shop.room.leave(rt),
-            Err(_) => return worker.leave_to_others(rt, shop.room, piece),
+            Ok(None) => return shop.monitor.leave(rt),
+            Err(_) => return worker.leave_to_others(rt, shop.monitor, piece),
         }
     }
 }
@@ -104,11 +104,11 @@ pub fn work_at_seat<'a, B: Wait + Drop, R: Wait, G: Gate>(
     ensures worked { HasWorked (state_of seat) (state_of result) }
 {
     let mut worker = Worker::new(alloc, number, seat);
-    let Some(piece) = worker.next_piece(rt, shop.room) else {
+    let Some(piece) = worker.next_piece(rt, shop.monitor) else {
         return worker.into_seat();
     };
     let Ok(mut path) = own_path(alloc, shop.problem, path) else {
-        worker.leave_to_others(rt, shop.room, piece);
+        worker.leave_to_others(rt, shop.monitor, piece);
         return worker.into_seat();
     };
     worker.keep(piece);

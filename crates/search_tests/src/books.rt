@@ -28,8 +28,7 @@ pub fn solved(alloc: Global, problem: &Arc<Problem>, solids: u32) -> Result<Vec<
     requires { (1 ≤ solids) × (solids ≤ most_solid_limit) }
     ensures { IfOk result (λ solids. AreSolutions (arc_value problem.now) solids.items) }
 {
-    // A look at the problem tells that its blocks are those of its grid.
-    let _grid = problem.grid();
+    problem.known();
     let limits = Limits {
         nodes: 4_000_000,
         solids,

@@ -44,8 +44,7 @@ impl<'a> BlockPath<'a> {
     pub fn new(alloc: Global, problem: &'a Problem) -> Result<BlockPath<'a>, Memory>
         ensures { IfOk result (λ path. path ≡ record { problem = problem.now; values = [] }) }
     {
-        // A look at the problem tells that its blocks are those of its grid.
-        let _grid = problem.grid();
+        problem.known();
         let blocks = problem.blocks().count();
         let count = usize::from(blocks);
         let said = Vec::from_elem(alloc, false, count)?;

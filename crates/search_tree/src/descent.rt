@@ -14,22 +14,9 @@ ghost use Rattle.solid_model.specs.Decisions.{decided_by};
 ghost use Rattle.solid_model.specs.Demands.{said_by};
 ghost use Rattle.solid_model.specs.Forcing.{IsStable, Lives};
 
-use line_demands::Partial;
+use line_demands::{Partial, undo_to};
 use propagate::{Closed, close, decide_closed};
 use solid_model::Prefix;
-
-/// Takes back all decisions but the first, so many.
-fn undo_to(partial: &mut Partial<'_>, mark: u16)
-    requires { mark ≤ length partial.old.decisions }
-    ensures { partial.new ≡ record {
-      problem = partial.old.problem;
-      decisions = take mark partial.old.decisions;
-    } }
-{
-    while partial.decided() > mark {
-        partial.undo();
-    }
-}
 
 /// Begins at the empty prefix, where no block is decided and nothing is marked: takes all decisions
 /// that follow from it, unless it isn't live.

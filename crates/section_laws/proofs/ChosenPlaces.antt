@@ -8,7 +8,7 @@ use Rattle.solid_model.specs.declared.per_axis.PerAxis.{PerAxis}
 use Rattle.solid_model.specs.Cells.{cell_at}
 use Rattle.solid_model.specs.Grid.{Coordinates, GridCell, gaps_along, grid_cell_place}
 use Rattle.solid_model.specs.PerAxis.{numbers_of, cell_of}
-use Rattle.solid_model.specs.Rooms.{Sizes, is_within, box_place, box_count, place_of_number}
+use Rattle.solid_model.specs.WalledBoxes.{Sizes, is_within, box_place, box_count, place_of_number}
 use Rattle.solid_model.proofs.BoxPlaces.{within_box, one_cell, cell_there, numbers_below}
 use Rattle.section_laws.specs.Shaded.{IsNoFarther, ChoosesWhere}
 

@@ -1,6 +1,6 @@
 -- What a plane leaves of a union of grid cells, told by the first gap behind it.
 use Rattle.std.proofs.Common.{◌≡◌, ◌⊎◌, inl, inr, Bool, true, false, ℕ, suc, ◌<◌, List, length, Option, Some, ℤ, pos, neg_ℤ, ◌-ℤ◌, ◌<ℤ◌, int_le, int_eq, if◌then◌else◌, refl, sym, subst, ◌∙◌, arith}
-use Rattle.std.specs.Prelude.{IfSome}
+use Rattle.std.specs.Prelude.{IfSome, IsTrue}
 use Rattle.std.proofs.lemmas.Bool.{both_ways, and_parts, and_from, false_from_ne_true}
 use Rattle.std.proofs.lemmas.Bool.Decides.{Decides-int_eq}
 use Rattle.std.proofs.lemmas.Int.{ints}
@@ -18,7 +18,7 @@ use Rattle.solid_model.proofs.UnionDrawing.{in_grid_or_not}
 use Rattle.section_laws.specs.CutGaps.{EndsBehind, IsFirstGap, ReachesPlane}
 use Rattle.section_laws.specs.LeftCells.{DrawsWhatIsLeft, LeavesNothing}
 use Rattle.section_laws.specs.Sections.{is_behind, is_cut, rest_behind}
-use Rattle.section_laws.specs.Shaded.{AreShaded, AreSlab, IsCutGap}
+use Rattle.section_laws.specs.Shaded.{AreShaded, AreSlab, AreLeftCells, IsCutGap}
 use Rattle.section_laws.proofs.AreaDrawing.{area_drawn, full_area}
 use Rattle.section_laws.proofs.CutDrawing.{full_cut}
 use Rattle.section_laws.proofs.CutGaps.{StandsBehind, cell_behind, behind_ends, reached_there, CutsAlike, cuts_alike, touches_none}
@@ -83,12 +83,12 @@ module _ (f : Frame) (is : IsFrame f) (coordinates : Coordinates) (ascends : (a 
         ascends_here : Ascends ◌<ℤ◌ zs
         ascends_here = ascends f.away.axis
 
-    pub no_rest : LeavesNothing f coordinates chosen plane false
+    no_rest : LeavesNothing f coordinates chosen plane false
     no_rest s union c = false_from_ne_true _ (λ e.
         let p = and_parts (is_behind f plane c) (is_full s c) (sym (full_cut f is plane s c) ∙ e) in
         none_behind (depth_axis c) (gap_of_full s union c p.1) (to_stands forward plane (depth_axis c) p.0))
 
-    pub no_area : LeavesNothing f coordinates chosen plane true
+    no_area : LeavesNothing f coordinates chosen plane true
     no_area s union c = false_from_ne_true _ (λ e.
         let p = and_parts (is_cut f plane c) (is_full s c) (sym (full_area f is plane s c) ∙ e) in
         none_behind (depth_axis c) (gap_of_full s union c p.1) (subst (StandsBehind forward plane) (sym (touched forward plane (depth_axis c) p.0)) (touches_stands forward plane)))
@@ -97,10 +97,15 @@ module _ (f : Frame) (is : IsFrame f) (coordinates : Coordinates) (ascends : (a 
         touches_stands true plane = omega (arith, ints)
         touches_stands false plane = omega (arith, ints)
 
+    -- so nothing is left of either kind
+    pub nothing_left : (area : Bool) → LeavesNothing f coordinates chosen plane area
+    nothing_left true = no_area
+    nothing_left false = no_rest
+
   -- ---- the first one that does
 
   module _ (n : ℕ) (first : IsFirstGap forward zs plane n) where
-    pub shaded_draw : (shaded : List Bool) → AreShaded f.away coordinates n chosen shaded → DrawsWhatIsLeft f coordinates chosen plane false shaded
+    shaded_draw : (shaded : List Bool) → AreShaded f.away coordinates n chosen shaded → DrawsWhatIsLeft f coordinates chosen plane false shaded
     shaded_draw shaded are s other union union_too g style drawn =
         section_drawn f is coordinates ascends chosen shaded n are s other union union_too alike.other (in_gap_there alike.other n alike.there) g style
         (subst (λ (full : Cell → Bool). Draws f full g style) (λ t c. same_rest c t) drawn)
@@ -120,14 +125,24 @@ module _ (f : Frame) (is : IsFrame f) (coordinates : Coordinates) (ascends : (a 
         same_rest : (c : Cell) → is_full (rest_behind f plane s) c ≡ is_full (rest_behind f alike.other s) c
         same_rest c = same_tests _ _ (to plane alike.other alike.behind c) (to alike.other plane alike.back c)
 
-    pub slab_draws : ReachesPlane forward zs plane n → (slab : List Bool) → AreSlab f.away coordinates n chosen slab → DrawsWhatIsLeft f coordinates chosen plane true slab
+    slab_draws : ReachesPlane forward zs plane n → (slab : List Bool) → AreSlab f.away coordinates n chosen slab → DrawsWhatIsLeft f coordinates chosen plane true slab
     slab_draws near slab are s other union union_too g style =
         area_drawn f is coordinates ascends chosen slab n are s other union union_too plane
         (in_gap_there plane n (reached_there zs (ascends f.away.axis) forward plane n first near)) g style
 
-    pub none_cut : (ReachesPlane forward zs plane n → ⊥) → LeavesNothing f coordinates chosen plane true
+    none_cut : (ReachesPlane forward zs plane n → ⊥) → LeavesNothing f coordinates chosen plane true
     none_cut begins s union c = false_from_ne_true _ (λ e.
         let p = and_parts (is_cut f plane c) (is_full s c) (sym (full_area f is plane s c) ∙ e) in
         let inside = gap_of_full s union c p.1 in
         touches_none zs (ascends f.away.axis) forward plane n inside.0 first begins
         (subst (λ z. is_in_gap zs inside.0 z ≡ true) (touched forward plane (depth_axis c) p.0) inside.1))
+
+    -- what is kept draws what is left of either kind, where the gap holds something of it; and else nothing is left
+    pub kept_draw : (area : Bool) → (IsTrue area → ReachesPlane forward zs plane n) → (kept : List Bool) → AreLeftCells area f.away coordinates n chosen kept
+        → DrawsWhatIsLeft f coordinates chosen plane area kept
+    kept_draw true holds = slab_draws (holds refl)
+    kept_draw false holds = shaded_draw
+
+    pub none_kept : (area : Bool) → ((IsTrue area → ReachesPlane forward zs plane n) → ⊥) → LeavesNothing f coordinates chosen plane area
+    none_kept true none = none_cut (λ reaches. none (λ _. reaches))
+    none_kept false none = absurd (none (λ e. cc))

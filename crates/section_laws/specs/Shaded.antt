@@ -31,9 +31,18 @@ IsShaded d sizes first chosen n = (m : ℕ) × IsNoFarther d.forward first m × 
 abbrev pub IsInSlab : Direction → (Axis → ℕ) → ℕ → List Bool → GridCell → Type 0
 IsInSlab d sizes gap chosen n = (n d.axis ≡ gap) × (slice_index_or chosen (place_in sizes n) false ≡ true)
 
+-- it belongs to the cut area, or to all that is left
+abbrev pub IsLeftCell : Bool → Direction → (Axis → ℕ) → ℕ → List Bool → GridCell → Type 0
+IsLeftCell true = IsInSlab
+IsLeftCell false = IsShaded
+
 -- the second list chooses what is shaded from this gap on, or what of the first one lies in it
 abbrev pub AreShaded : Direction → Coordinates → ℕ → List Bool → List Bool → Type 0
 AreShaded d coordinates first chosen = ChoosesWhere coordinates (IsShaded d (gaps_along coordinates) first chosen)
 
 abbrev pub AreSlab : Direction → Coordinates → ℕ → List Bool → List Bool → Type 0
 AreSlab d coordinates gap chosen = ChoosesWhere coordinates (IsInSlab d (gaps_along coordinates) gap chosen)
+
+-- either of these
+abbrev pub AreLeftCells : Bool → Direction → Coordinates → ℕ → List Bool → List Bool → Type 0
+AreLeftCells area d coordinates gap chosen = ChoosesWhere coordinates (IsLeftCell area d (gaps_along coordinates) gap chosen)

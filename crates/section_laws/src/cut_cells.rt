@@ -6,7 +6,7 @@ ghost use Rattle.solid_model.specs.GridPlaces.{place_in};
 ghost use Rattle.solid_model.specs.Limits.{most_grid_coordinates};
 ghost use Rattle.solid_model.specs.Panels.{coordinates_of};
 ghost use Rattle.solid_model.specs.PerAxis.{numbers_of};
-ghost use Rattle.section_laws.specs.Shaded.{IsShaded, IsInSlab, AreShaded, AreSlab};
+ghost use Rattle.section_laws.specs.Shaded.{IsShaded, IsInSlab, IsLeftCell, AreLeftCells};
 
 use solid_model::{Direction, Grid, Memory, PerAxis, place_of_cell};
 use std::alloc::Global;
@@ -54,27 +54,6 @@ fn is_shaded(cells: &[bool], sizes: PerAxis, away: Direction, first: usize, cell
     false
 }
 
-/// The grid cells that are at or behind a chosen one, from the gap `first` on: z slowest and x
-/// fastest. An `Err` is out of memory.
-pub fn shaded_cells(
-    alloc: Global,
-    grid: &Grid,
-    away: Direction,
-    first: usize,
-    cells: &[bool],
-) -> Result<Vec<bool>, Memory>
-    requires { first ≤ most_grid_coordinates }
-    ensures { IfOk result (λ shaded.
-        AreShaded away (coordinates_of grid.now) first cells.now shaded.items) }
-{
-    let sizes = grid.sizes();
-    let mut shaded = Vec::new(alloc);
-    for place in 0..sizes.count() {
-        shaded.push(is_shaded(cells, sizes, away, first, sizes.cell(place)))?;
-    }
-    Ok(shaded)
-}
-
 /// A grid cell lies in a gap along the sight, and is chosen.
 fn is_in_slab(cells: &[bool], sizes: PerAxis, away: Direction, gap: usize, cell: PerAxis) -> bool
     requires sizes { (a : Axis) → numbers_of sizes a ≤ most_grid_coordinates }
@@ -88,22 +67,47 @@ fn is_in_slab(cells: &[bool], sizes: PerAxis, away: Direction, gap: usize, cell:
     is_chosen(cells, sizes, cell)
 }
 
-/// The chosen grid cells that lie in a gap along the sight: z slowest and x fastest. An `Err` is out
-/// of memory.
-pub fn slab_cells(
+/// A grid cell belongs to the area that is cut in a gap along the sight, or to all that is left from
+/// that gap on.
+fn is_kept(
+    cells: &[bool],
+    sizes: PerAxis,
+    away: Direction,
+    gap: usize,
+    area: bool,
+    cell: PerAxis,
+) -> bool
+    requires sizes { (a : Axis) → numbers_of sizes a ≤ most_grid_coordinates }
+    requires gap { gap ≤ most_grid_coordinates }
+    requires cell { (a : Axis) → numbers_of cell a ≤ most_grid_coordinates }
+    ensures { IsTrue result
+        ↔ IsLeftCell area away (numbers_of sizes) gap cells.now (numbers_of cell) }
+{
+    if area {
+        is_in_slab(cells, sizes, away, gap, cell)
+    } else {
+        is_shaded(cells, sizes, away, gap, cell)
+    }
+}
+
+/// The chosen grid cells that lie in a gap along the sight, or all that are at or behind a chosen
+/// one from that gap on: z slowest and x fastest. An `Err` is out of memory.
+pub fn kept_cells(
     alloc: Global,
     grid: &Grid,
     away: Direction,
     gap: usize,
+    area: bool,
     cells: &[bool],
 ) -> Result<Vec<bool>, Memory>
-    ensures { IfOk result (λ slab.
-        AreSlab away (coordinates_of grid.now) gap cells.now slab.items) }
+    requires { gap ≤ most_grid_coordinates }
+    ensures { IfOk result (λ kept.
+        AreLeftCells area away (coordinates_of grid.now) gap cells.now kept.items) }
 {
     let sizes = grid.sizes();
-    let mut slab = Vec::new(alloc);
+    let mut kept = Vec::new(alloc);
     for place in 0..sizes.count() {
-        slab.push(is_in_slab(cells, sizes, away, gap, sizes.cell(place)))?;
+        kept.push(is_kept(cells, sizes, away, gap, area, sizes.cell(place)))?;
     }
-    Ok(slab)
+    Ok(kept)
 }

@@ -40,7 +40,7 @@ pub fn first_gap(coordinates: &[i64], forward: bool, plane: i64) -> Option<usize
 }
 
 /// A gap's near end doesn't stand behind a plane.
-pub fn reaches_plane(coordinates: &[i64], forward: bool, gap: usize, plane: i64) -> bool
+fn reaches_plane(coordinates: &[i64], forward: bool, gap: usize, plane: i64) -> bool
     requires { suc gap < length coordinates.now }
     ensures { IsTrue result ↔ ReachesPlane forward coordinates.now plane gap }
 {
@@ -49,4 +49,12 @@ pub fn reaches_plane(coordinates: &[i64], forward: bool, gap: usize, plane: i64)
     } else {
         plane <= coordinates[gap + 1]
     }
+}
+
+/// The same, where the area is asked for that the plane cuts in the gap.
+pub fn holds_left(coordinates: &[i64], forward: bool, gap: usize, plane: i64, area: bool) -> bool
+    requires { suc gap < length coordinates.now }
+    ensures { IsTrue result ↔ (IsTrue area → ReachesPlane forward coordinates.now plane gap) }
+{
+    !area || reaches_plane(coordinates, forward, gap, plane)
 }

@@ -108,7 +108,7 @@ pub fn run_session<R: Threads + Wait + Sync, G: Gate>(
     let Opened {
         path,
         seats,
-        room,
+        monitor,
         readers,
         goes_on,
     } = open_at(rt, alloc, &problem, limits, workers, count, true)?;
@@ -118,13 +118,13 @@ pub fn run_session<R: Threads + Wait + Sync, G: Gate>(
         let shop = Workshop {
             problem: &problem,
             limits,
-            room: &room,
+            monitor: &monitor,
             gate,
             workers,
         };
         tell_together(rt, alloc, &shop, path, seats, scripts, readers)?
     };
-    let (desk, marks) = room.into_desk();
+    let (desk, marks) = monitor.into_desk();
     let go_on = !asks_stop(scripts);
     let end = end_of(
         alloc,

@@ -51,7 +51,7 @@ fn play_together<'a, 's, R: Threads + Wait + Sync, G: Gate>(
         {
             start_workers(scope, rt, alloc, shop, path, seats);
             let mut players = players;
-            play_all(rt, alloc, scripts, players.as_mut_slice(), shop.room);
+            play_all(rt, alloc, scripts, players.as_mut_slice(), shop.monitor);
             players
         },
     )

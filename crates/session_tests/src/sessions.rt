@@ -13,10 +13,9 @@ use std::alloc::{AllocError, Global};
 use std::cmp::Ordering;
 use std::sync::{Arc, Wait};
 use std::test::*;
-use std::thread;
 use std::thread::Threads;
-use test_files::{Row, drawing_file, file_bytes, rows_tell};
-use tv_base::{Gate, OpenGate, Point};
+use test_files::{Row, Slow, drawing_file, file_bytes, rows_tell};
+use tv_base::{Gate, OpenGate};
 
 /// A cube of 5 with eight voids: 35 solids, 109 nodes.
 const EIGHT_VOIDS: &str = "lattice 2 2";
@@ -140,33 +139,16 @@ fn two_readers_beside_two_workers(rt: HostRuntime) -> Result<(), Fail> {
     Ok(())
 }
 
-/// A worker is held for so many turns before each expansion. A turn is one yield.
-const TURNS: u32 = 20_000;
-
 /// In so many sessions a reader asked to stop before the search had ended.
 const TRIALS: u32 = 40;
-
-/// Holds each worker for some turns at an expansion's beginning.
-#[derive(Clone, Copy)]
-struct Slow;
-
-impl Gate for Slow {
-    fn pass(&self, _worker: u32, point: Point) {
-        if point != Point::BeforeExpand {
-            return;
-        }
-        for _ in 0..TURNS {
-            thread::yield_now();
-        }
-    }
-}
 
 /// Whether a session in which a reader waits for more solids than there are, and another one asks to
 /// stop while workers are held, ends stopped: so readers go on beside one another, and beside the
 /// workers.
 fn is_stopped<R: Threads + Wait + Sync>(rt: &R, alloc: Global) -> Result<bool, Fail> {
-    let session = gated_session(rt, alloc, 2, &Slow, "readers 2|0 wait 65536|1 stop|go")?;
-    Ok(matches!(session.end, SearchEnd::Stopped { .. }))
+    let gate = Slow::new();
+    let session = gated_session(rt, alloc, 2, &gate, "readers 2|0 wait 65536|1 stop|go")?;
+    Ok(gate.has_held() && matches!(session.end, SearchEnd::Stopped { .. }))
 }
 
 /// Whether one of some such sessions does.

@@ -10,8 +10,8 @@ use Rattle.sink_pages.specs.Gained.{GainedText, HasGained, pages_of}
 use Rattle.sink_pages.specs.Next.{IsNext}
 use Rattle.sink_pages.specs.PageTexts.{Page, choices_on, pages_text}
 use Rattle.lemmas.proofs.Lists.{each-append_right}
-use Rattle.choice_sieves.specs.Those.{AreThose, AreThoseOfEach}
-use Rattle.choice_sieves.proofs.Those.{none_more, some_more}
+use Rattle.page_calls.specs.Those.{AreThose, AreThoseOfEach}
+use Rattle.page_calls.proofs.Those.{none_more, some_more}
 use Rattle.tv_base.proofs.Told.{appends_both}
 use Rattle.tv_base.specs.declared.sink.SinkError.{SinkError}
 use Rattle.tv_base.specs.Pieces.{AppendsPrefix}

@@ -4,7 +4,7 @@ use Rattle.std.specs.Io.KnownBytes.{Appends}
 use Rattle.page_calls.specs.Pages.{Call}
 use Rattle.lemmas.specs.Lists.{Each}
 use Rattle.sink_pages.specs.PageTexts.{Page, choices_on, pages_text}
-use Rattle.choice_sieves.specs.Those.{AreThoseOfEach}
+use Rattle.page_calls.specs.Those.{AreThoseOfEach}
 use Rattle.tv_base.specs.Pieces.{AppendsPrefix}
 
 -- what the sink holds, where it tells it; how often it has failed; and the calls that handed out pages

@@ -2,14 +2,14 @@
 
 ghost use Rattle.std.specs.Prelude.{◌≡◌, ℕ, ◌≤◌, IfOk, OnOk, OnErr, IsErrOf};
 ghost use Rattle.std.specs.Io.KnownBytes.{Appends};
-ghost use Rattle.choice_sieves.specs.Those.{AreThose};
+ghost use Rattle.page_calls.specs.Those.{AreThose};
 ghost use Rattle.sink_pages.specs.Next.{IsNext};
 ghost use Rattle.sink_pages.specs.PageTexts.{Page};
 ghost use Rattle.tv_base.specs.Faults.{Rose};
 ghost use Rattle.tv_base.specs.Pieces.{AppendsPrefix};
 ghost use Rattle.tv_base.specs.declared.sink.SinkError.TheVariants as sink_error;
 
-use choice_sieves::{Sieve, sift};
+use page_calls::{Sieve, sift};
 use report::page_text;
 use solid_model::{Choice, Memory};
 use std::alloc::Global;

@@ -5,8 +5,7 @@ ghost use Rattle.page_calls.specs.Pages.{Call, AddsCalls, CountsFaults, MayAddCa
 ghost use Rattle.sink_pages.specs.Gained.{HasGained};
 
 use crate::next::{next_page, write_next};
-use choice_sieves::Sieve;
-use page_calls::PageOut;
+use page_calls::{PageOut, Sieve};
 use solid_model::{Choice, Memory, copy_choices};
 use std::alloc::Global;
 use std::marker::{Brand, Model, PhantomData};

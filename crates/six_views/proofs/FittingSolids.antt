@@ -8,19 +8,17 @@ use Rattle.solid_model.specs.Choices.{AreSolidsOfChoices, cells_of_choice}
 use Rattle.solid_model.specs.Grid.{Coordinates, IsUnionOf}
 use Rattle.solid_model.specs.Matching.{Matches, AreSolidsOf}
 use Rattle.solid_model.specs.Orders.{IsInStatedForm, SolidPrecedes}
-use Rattle.solid_model.specs.Drawings.{IsEmptyView}
+use Rattle.solid_model.specs.Drawings.{drawing_of, IsEmptyView}
 use Rattle.solid_model.specs.Line.{Line}
 use Rattle.lemmas.specs.Lists.{Member}
 use Rattle.lemmas.proofs.Lists.{IsWithin, each-at, each-from, each-weaker, same_ascending}
 use Rattle.solid_model.proofs.CellOrder.{one_list}
 use Rattle.solid_model.proofs.SolidOrder.{precedes_one_way}
-use Rattle.solid_model.proofs.Styles.{same_drawing}
-use Rattle.dxf_entities.specs.declared.extra.Extra.{Extra}
-use Rattle.further_views.specs.Further.{seen_as}
-use Rattle.six_views.specs.FurtherFrames.{further_frame}
+use Rattle.dxf_entities.specs.declared.layer.Layer.{Layer}
 use Rattle.six_views.specs.Fits.{AreSolidsThat, AreFittingSolids, Fits}
-use Rattle.choice_sieves.specs.Those.{AreThose}
-use Rattle.choice_sieves.proofs.Those.{from_those, to_those, those_ascend}
+use Rattle.page_calls.specs.Those.{AreThose}
+use Rattle.page_calls.proofs.Those.{from_those, to_those, those_ascend}
+use Rattle.six_views.proofs.ShownCuts.{layer_same}
 
 -- those that fit, of all that match, are all that match and fit; whether a solid fits doesn't rest on its list's order
 pub fitting_of_all : (drawing : Segment → Style) (F : List Cell → Type 0) → ((s t : List Cell) → SameCells s t → F s → F t)
@@ -52,7 +50,7 @@ module _ (coordinates : Coordinates) (items : List (Option ℕ)) (n : ℕ) (F : 
       )
 
 -- where no view is asked for, all that match and fit are all that match
-pub none_asked : (drawing : Segment → Style) (further : Extra → List Line) → ((x : Extra) → IsEmptyView (further x) (seen_as x))
+pub none_asked : (drawing : Segment → Style) (further : Layer → List Line) → ((x : Layer) → IsEmptyView (further x) x.view)
     → (solids : List (List Cell)) → AreFittingSolids drawing further solids ↔ AreSolidsOf drawing solids
 none_asked drawing further none solids = (
   (λ are. record {
@@ -70,9 +68,8 @@ none_asked drawing further none solids = (
 )
 
 -- whether a solid fits doesn't rest on its list's order and repeats
-pub fits_same : (further : Extra → List Line) (s t : List Cell) → SameCells s t → Fits further s → Fits further t
-fits_same further s t same fits x asked = let h = fits x asked in
-    (h.0, (λ g of. same_drawing (further_frame x) (is_full s) (is_full t) same g _ (h.1 g of)), h.2)
+pub fits_same : (further : Layer → List Line) (s t : List Cell) → SameCells s t → Fits further s → Fits further t
+fits_same further s t same fits x asked = layer_same x s t same (drawing_of (further x)) (fits x asked)
 
 -- ---- one list
 

@@ -1,12 +1,15 @@
 pub mod Turned
 pub mod TurnedGrid
 pub mod TurnedColumns
-pub mod FittingSolids
 pub mod MovedRuns
 pub mod SeenTurned
 pub mod SeenRuns
 pub mod FirstRuns
 pub mod ShownRuns
+pub mod ShownCuts
+pub mod Decided
+pub mod SomeLeft
 pub mod FitsDecided
+pub mod FittingSolids
 pub mod Sifted
 pub mod SiftedChoices

@@ -1,4 +1,4 @@
--- What is computed of a further view's columns is the drawing of the turned solid on the turned grid.
+-- What is computed of a layer's columns is the drawing of the turned solid on the turned grid.
 use Rattle.std.proofs.Common.{◌≡◌, Bool, false, ℕ, ◌+◌, ◌-◌, ◌*◌, ◌/◌, ◌%◌, ◌<◌, List, map, length, slice_index_or, ap, sym, subst, ◌∙◌, arith}
 use Rattle.std.specs.List.{range_with_len}
 use Rattle.std.proofs.lemmas.List.{get_or-map}
@@ -17,13 +17,12 @@ use Rattle.solid_model.proofs.OnGrid.{StaysOnGrid}
 use Rattle.solid_model.proofs.UnionDrawing.{union_on_grid}
 use Rattle.solid_model.specs.GridPlaces.{place_in}
 use Rattle.column_laws.specs.GridPanels.{HasCounts, AreStylesAlong}
-use Rattle.dxf_entities.specs.declared.extra.Extra.{Extra}
-use Rattle.further_views.specs.Further.{seen_as}
-use Rattle.six_views.specs.Turned.{turn_axis, turned_cells, turned_coordinates, turned_numbers, AreTurnedCells}
+use Rattle.dxf_entities.specs.declared.layer.Layer.{Layer}
+use Rattle.six_views.specs.Turned.{turned_cells, turned_coordinates, turned_numbers, AreTurnedCells}
 use Rattle.six_views.proofs.Turned.{full_turned}
 use Rattle.six_views.proofs.TurnedGrid.{counts-turned, union_turned}
 
--- ---- a list of cells, turned
+-- ---- lists of grid cells
 
 -- the numbers of the grid cell at a place of a list of all cells
 abbrev numbers_at : (Axis → ℕ) → ℕ → GridCell
@@ -41,49 +40,51 @@ module _ (sizes : Axis → ℕ) (n : GridCell) (within : (b : Axis) → n b < si
   place_within : place_in sizes n < sizes X * (sizes Y * sizes Z)
   place_within = mul-add-lt (n Z * sizes Y + n Y) (sizes X) (n X) (sizes Y * sizes Z) (mul-add-lt (n Z) (sizes Y) (n Y) (sizes Z) (within Z) (within Y)) (within X)
 
--- there is such a list
-pub some_turned : (a : Axis) (sizes : Axis → ℕ) (chosen : List Bool) → (turned : List Bool) × AreTurnedCells a sizes chosen turned
-some_turned a sizes chosen = (
-  map value (range_with_len 0 count),
+-- there is a list of the values of grid cells
+pub some_list : (sizes : Axis → ℕ) (value : GridCell → Bool)
+    → (xs : List Bool) × ((n : GridCell) → ((b : Axis) → n b < sizes b) → slice_index_or xs (place_in sizes n) false ≡ value n)
+some_list sizes value = (
+  map at (range_with_len 0 count),
   λ n within.
       let p : ℕ = place_in sizes n in
       let inside : p < length (range_with_len 0 count) = subst (λ k. p < k) (sym (length-range_with_len 0 count)) (place_within sizes n within) in
-      get_or-map value (range_with_len 0 count) p 0 false inside
-      ∙ ap value (get_or-range_with_len 0 count p 0 (place_within sizes n within) ∙ zero_more p)
-      ∙ ap (λ (m : GridCell). slice_index_or chosen (place_in sizes (turned_numbers a sizes m)) false) (λ t b. at_place sizes n within b t),
+      get_or-map at (range_with_len 0 count) p 0 false inside
+      ∙ ap at (get_or-range_with_len 0 count p 0 (place_within sizes n within) ∙ zero_more p)
+      ∙ ap value (λ t b. at_place sizes n within b t),
 )
   where
     count : ℕ
     count = sizes X * (sizes Y * sizes Z)
 
-    value : ℕ → Bool
-    value p = slice_index_or chosen (place_in sizes (turned_numbers a sizes (numbers_at sizes p))) false
+    at : ℕ → Bool
+    at p = value (numbers_at sizes p)
 
     zero_more : (p : ℕ) → 0 + p ≡ p
     zero_more p = omega arith
 
+-- so there is one of the cells that are turned
+pub some_turned : (x : Layer) (sizes : Axis → ℕ) (chosen : List Bool) → (turned : List Bool) × AreTurnedCells x sizes chosen turned
+some_turned x sizes chosen = some_list sizes (λ n. slice_index_or chosen (place_in sizes (turned_numbers x sizes n)) false)
+
 -- ---- the drawing of what is turned
 
-module _ (x : Extra) (counts : Axis → ℕ) (coordinates : Coordinates) (has : HasCounts counts coordinates) (chosen turned : List Bool)
-    (are : AreTurnedCells (turn_axis x) (gaps_of counts) chosen turned) (s : List Cell) (union : IsUnionOf coordinates chosen (is_full s)) where
-  abbrev a : Axis
-  a = turn_axis x
-
+module _ (x : Layer) (counts : Axis → ℕ) (coordinates : Coordinates) (has : HasCounts counts coordinates) (chosen turned : List Bool)
+    (are : AreTurnedCells x (gaps_of counts) chosen turned) (s : List Cell) (union : IsUnionOf coordinates chosen (is_full s)) where
   abbrev grid : Coordinates
-  grid = turned_coordinates a coordinates
+  grid = turned_coordinates x coordinates
 
   pub same_sizes : gaps_of counts ≡ gaps_along coordinates
   same_sizes = λ t b. sym (has.count b) t - 1
 
   pub turned_union : IsUnionOf grid turned (is_full (turned_cells x s))
   turned_union = subst (IsUnionOf grid turned) (λ t c. sym (full_turned x s c) t)
-      (union_turned a coordinates chosen turned (is_full s) union (subst (λ (sizes : Axis → ℕ). AreTurnedCells a sizes chosen turned) same_sizes are))
+      (union_turned x coordinates chosen turned (is_full s) union (subst (λ (sizes : Axis → ℕ). AreTurnedCells x sizes chosen turned) same_sizes are))
 
   -- the styles that are computed of the columns are those of the turned solid,
-  pub seen_styles : (upright : Bool) (styles : List Style) → AreStylesAlong counts turned (seen_as x) upright styles
-      → styles ≡ grid_styles (solid_drawing (turned_cells x s)) grid (seen_as x) upright
-  seen_styles upright styles all = all grid (counts-turned a coordinates counts has) (turned_cells x s) turned_union
+  pub seen_styles : (upright : Bool) (styles : List Style) → AreStylesAlong counts turned x.view upright styles
+      → styles ≡ grid_styles (solid_drawing (turned_cells x s)) grid x.view upright
+  seen_styles upright styles all = all grid (counts-turned x coordinates counts has) (turned_cells x s) turned_union
 
   -- whose drawing stays on the turned grid
   pub seen_on_grid : StaysOnGrid grid (solid_drawing (turned_cells x s))
-  seen_on_grid = union_on_grid grid (counts-turned a coordinates counts has).ordered turned (turned_cells x s) turned_union
+  seen_on_grid = union_on_grid grid (counts-turned x coordinates counts has).ordered turned (turned_cells x s) turned_union

@@ -1,6 +1,5 @@
 -- The choices that a whole search found and that fit fill all solids that match and fit.
-use Rattle.std.proofs.Common.{◌≡◌, ◌↔◌, Bool, List, Option, Some, None, ◌<ℤ◌, refl, sym, ◌∙◌}
-use Rattle.std.specs.Prelude.{IfSome}
+use Rattle.std.proofs.Common.{◌↔◌, Bool, List, ◌<ℤ◌, sym, subst}
 use Rattle.solid_model.specs.declared.cell.Axis.{Axis}
 use Rattle.solid_model.specs.declared.cell.Cell.{Cell}
 use Rattle.solid_model.specs.declared.segment.Segment.{Segment}
@@ -8,49 +7,40 @@ use Rattle.solid_model.specs.declared.segment.Style.{Style}
 use Rattle.solid_model.specs.Blocks.{ProblemParts}
 use Rattle.solid_model.specs.Cells.{is_full}
 use Rattle.solid_model.specs.Choices.{AreSolidsOfChoices, cells_of_choice}
-use Rattle.solid_model.specs.Drawings.{drawing_of, IsEmptyView}
+use Rattle.solid_model.specs.Drawings.{drawing_of}
 use Rattle.solid_model.specs.Grid.{IsUnionOf}
 use Rattle.solid_model.specs.Line.{Line}
 use Rattle.lemmas.specs.Lists.{Ascends}
+use Rattle.lemmas.proofs.Lists.{each-at, each-from}
 use Rattle.solid_model.specs.Matching.{AreSolidsOf}
 use Rattle.solid_model.specs.Panels.{coordinates_of}
-use Rattle.solid_model.specs.Runs.{ViewRuns}
 use Rattle.solid_model.proofs.ChosenSolids.{one_union}
-use Rattle.dxf_entities.specs.declared.extra.Extra.{Extra}
-use Rattle.six_views.specs.Fits.{ShowsMoved, Fits, AreFittingSolids}
-use Rattle.further_views.specs.Further.{FurtherRuns, AreFurtherOf, seen_as, view_style}
-use Rattle.six_views.specs.Further.{FitsRuns, FitsChoice}
-use Rattle.six_views.specs.FurtherFrames.{further_frame}
-use Rattle.choice_sieves.specs.Those.{AreThose}
+use Rattle.dxf_entities.specs.declared.layer.Layer.{Layer}
+use Rattle.six_views.specs.Fits.{AreFittingSolids, Fits, ShowsLayer}
+use Rattle.further_views.specs.Further.{AreFurtherOf, FurtherRuns, IsAskedOf, view_style}
+use Rattle.six_views.specs.Further.{FitsChoice, FitsRuns, ShowsAsked}
+use Rattle.page_calls.specs.Those.{AreThose}
 use Rattle.six_views.proofs.FittingSolids.{fitting_of_all, filled_those, fits_same}
+use Rattle.six_views.proofs.ShownCuts.{shown_alike}
 
 -- a solid fits the runs of further lines exactly where it fits the lines
-module _ (further : Extra → List Line) (e : FurtherRuns) (are : AreFurtherOf further e) (s : List Cell) where
-  to_lines : (x : Extra) (v : ViewRuns) → e x ≡ Some v → ShowsMoved (further_frame x) (is_full s) (view_style v) (seen_as x)
-      → ShowsMoved (further_frame x) (is_full s) (drawing_of (further x)) (seen_as x)
-  to_lines x v at (drawing, draws, (right, up, begins, same)) =
-      (drawing, draws, (right, up, begins, λ g of. sym (are.drawn x v at g of) ∙ same g of))
+module _ (further : Layer → List Line) (e : FurtherRuns) (are : AreFurtherOf further e) (s : List Cell) where
+  to_lines : FitsRuns e s → Fits further s
+  to_lines fits x asked =
+      let (v, k, same) = are.complete x asked in
+      subst (λ (l : Layer). ShowsLayer l s (drawing_of (further l))) same
+      (shown_alike v.layer s (view_style v.runs) (drawing_of (further v.layer)) (λ g of. sym ((each-at (IsAskedOf further) e v are.each k).drawn g of))
+      (each-at (ShowsAsked s) e v fits k))
 
-  from_lines : (x : Extra) (v : ViewRuns) → e x ≡ Some v → ShowsMoved (further_frame x) (is_full s) (drawing_of (further x)) (seen_as x)
-      → ShowsMoved (further_frame x) (is_full s) (view_style v) (seen_as x)
-  from_lines x v at (drawing, draws, (right, up, begins, same)) =
-      (drawing, draws, (right, up, begins, λ g of. are.drawn x v at g of ∙ same g of))
+  from_lines : Fits further s → FitsRuns e s
+  from_lines fits = each-from (ShowsAsked s) e (λ v k.
+      let of = each-at (IsAskedOf further) e v are.each k in
+      shown_alike v.layer s (drawing_of (further v.layer)) (view_style v.runs) of.drawn (fits v.layer of.asked))
 
   pub fits_lines : FitsRuns e s ↔ Fits further s
-  fits_lines = ((λ fits. λ x asked. by x (e x) refl (fits x) asked), (λ fits. λ x. back x (e x) refl (fits x)))
-    where
-      by : (x : Extra) (o : Option ViewRuns) → e x ≡ o → IfSome o (λ v. ShowsMoved (further_frame x) (is_full s) (view_style v) (seen_as x))
-          → (IsEmptyView (further x) (seen_as x) → ⊥) → ShowsMoved (further_frame x) (is_full s) (drawing_of (further x)) (seen_as x)
-      by x None at shows asked = absurd (asked (are.none x at))
-      by x (Some v) at shows asked = to_lines x v at shows
+  fits_lines = (to_lines, from_lines)
 
-      back : (x : Extra) (o : Option ViewRuns) → e x ≡ o
-          → ((IsEmptyView (further x) (seen_as x) → ⊥) → ShowsMoved (further_frame x) (is_full s) (drawing_of (further x)) (seen_as x))
-          → IfSome o (λ v. ShowsMoved (further_frame x) (is_full s) (view_style v) (seen_as x))
-      back x None at shows = tt
-      back x (Some v) at shows = from_lines x v at (shows (are.some x v at))
-
-module _ (p : ProblemParts) (ascends : (a : Axis) → Ascends ◌<ℤ◌ (coordinates_of p.grid a)) (further : Extra → List Line) (e : FurtherRuns) (are : AreFurtherOf further e) where
+module _ (p : ProblemParts) (ascends : (a : Axis) → Ascends ◌<ℤ◌ (coordinates_of p.grid a)) (further : Layer → List Line) (e : FurtherRuns) (are : AreFurtherOf further e) where
   -- a choice fits exactly where the solid that it fills does
   choice_fits : (choice : List Bool) (s : List Cell) → IsUnionOf (coordinates_of p.grid) (cells_of_choice p.blocks.numbers choice) (is_full s)
       → FitsChoice p e choice ↔ Fits further s

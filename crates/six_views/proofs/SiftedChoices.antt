@@ -1,11 +1,11 @@
--- Choices that are left where those are kept whose solids fit further views, told by the views' lines.
-use Rattle.std.proofs.Common.{◌≡◌, ◌↔◌, ⊎_elim, inl, inr, Bool, List, [], ◌∷◌, Option, Some, None, ◌<ℤ◌, IfSome, refl, sym, subst}
+-- Choices that are left where those are kept whose solids fit further views and sections, told by their lines.
+use Rattle.std.proofs.Common.{◌≡◌, ◌↔◌, ⊎_elim, inl, inr, Bool, List, [], ◌∷◌, ◌<ℤ◌, refl, sym, subst}
 use Rattle.solid_model.specs.declared.cell.Axis.{Axis}
 use Rattle.solid_model.specs.declared.cell.Cell.{Cell}
 use Rattle.solid_model.specs.declared.segment.Segment.{Segment}
 use Rattle.solid_model.specs.declared.segment.Style.{Style}
 use Rattle.solid_model.specs.Blocks.{ProblemParts}
-use Rattle.solid_model.specs.Cells.{is_full, IsSolid, SameCells}
+use Rattle.solid_model.specs.Cells.{is_full, SameCells}
 use Rattle.solid_model.specs.Choices.{AreSolidsOfChoices, cells_of_choice}
 use Rattle.solid_model.specs.Drawings.{IsEmptyView}
 use Rattle.solid_model.specs.Grid.{IsUnionOf}
@@ -13,24 +13,23 @@ use Rattle.solid_model.specs.Line.{Line}
 use Rattle.solid_model.specs.Matching.{Matches, AreSolidsOf, AreSomeSolidsOf}
 use Rattle.solid_model.specs.Orders.{IsInStatedForm, SolidPrecedes}
 use Rattle.solid_model.specs.Panels.{coordinates_of}
-use Rattle.solid_model.specs.Runs.{ViewRuns}
 use Rattle.solid_model.proofs.ChosenSolids.{one_union}
-use Rattle.solid_model.proofs.Styles.{same_drawing}
-use Rattle.lemmas.specs.Lists.{Ascends, Each}
-use Rattle.lemmas.proofs.Lists.{each-at, each-from}
-use Rattle.choice_sieves.specs.Those.{AreThose}
-use Rattle.choice_sieves.proofs.Those.{all_those, from_those, those_alike, those_ascend}
-use Rattle.dxf_entities.specs.declared.extra.Extra.{Extra}
-use Rattle.further_views.specs.Further.{AreFurtherOf, AsksForNone, FurtherRuns, HasRuns, seen_as, view_style}
-use Rattle.six_views.specs.Fits.{AreFittingSolids, AreSomeFittingSolids, Fits, ShowsMoved}
-use Rattle.six_views.specs.Further.{FitsChoice, FitsLines, FitsRuns}
-use Rattle.six_views.specs.FurtherFrames.{further_frame}
-use Rattle.six_views.proofs.FitsDecided.{as_decided, fits_decided}
+use Rattle.lemmas.specs.Lists.{Ascends}
+use Rattle.lemmas.proofs.Lists.{each-at, each-from, each-weaker}
+use Rattle.page_calls.specs.Those.{AreThose}
+use Rattle.page_calls.proofs.Those.{all_those, from_those, those_alike, those_ascend}
+use Rattle.dxf_entities.specs.declared.layer.Layer.{Layer}
+use Rattle.further_views.specs.Further.{AreFurtherOf, AsksForNone, FurtherRuns, HasRuns, view_style}
+use Rattle.six_views.specs.Fits.{AreFittingSolids, AreSomeFittingSolids, Fits}
+use Rattle.six_views.specs.Further.{FitsChoice, FitsLines, FitsRuns, ShowsAsked}
+use Rattle.six_views.proofs.Decided.{as_decided}
+use Rattle.six_views.proofs.FitsDecided.{fits_decided}
 use Rattle.six_views.proofs.FittingSolids.{filled_those, fits_same, fitting_of_all}
+use Rattle.six_views.proofs.ShownCuts.{layer_same}
 use Rattle.six_views.proofs.Sifted.{fits_lines}
 
 -- those that fit, of some that match, are some that match and fit
-fitting_of_some : (drawing : Segment → Style) (further : Extra → List Line) (some those : List (List Cell)) → AreSomeSolidsOf drawing some
+fitting_of_some : (drawing : Segment → Style) (further : Layer → List Line) (some those : List (List Cell)) → AreSomeSolidsOf drawing some
     → AreThose (Fits further) some those → AreSomeFittingSolids drawing further those
 fitting_of_some drawing further some those are of = record {
   each = each-from (λ s. (Matches drawing s × Fits further s) × IsInStatedForm s) those (λ s k.
@@ -49,7 +48,7 @@ module _ (p : ProblemParts) (ascends : (a : Axis) → Ascends ◌<ℤ◌ (coordi
 
   -- ---- by lines
 
-  module _ (further : Extra → List Line) where
+  module _ (further : Layer → List Line) where
     abbrev Left : List Bool → Type 0
     Left = FitsLines p further
 
@@ -81,34 +80,28 @@ module _ (p : ProblemParts) (ascends : (a : Axis) → Ascends ◌<ℤ◌ (coordi
         (those, fitting_of_some drawing further some those are_some of, fill)
 
     -- where no view is asked for all are left
-    pub none_out : ((x : Extra) → IsEmptyView (further x) (seen_as x)) → (found kept : List (List Bool)) → AreThose Left found kept → kept ≡ found
+    pub none_out : ((x : Layer) → IsEmptyView (further x) x.view) → (found kept : List (List Bool)) → AreThose Left found kept → kept ≡ found
     none_out none found kept = all_those Left found kept (each-from Left found (λ choice k. λ s union. λ x asked. absurd (asked (none x))))
 
   -- ---- by runs
 
   module _ (e : FurtherRuns) where
     runs_same : (s t : List Cell) → SameCells s t → FitsRuns e s → FitsRuns e t
-    runs_same s t same fits x = by (e x) (fits x)
-      where
-        by : (o : Option ViewRuns) → IfSome o (λ v. ShowsMoved (further_frame x) (is_full s) (view_style v) (seen_as x))
-            → IfSome o (λ v. ShowsMoved (further_frame x) (is_full t) (view_style v) (seen_as x))
-        by None shows = tt
-        by (Some v) (drawing, draws, moved) = (drawing, (λ g of. same_drawing (further_frame x) (is_full s) (is_full t) same g _ (draws g of)), moved)
+    runs_same s t same = each-weaker (ShowsAsked s) (ShowsAsked t) e (λ v shows. layer_same v.layer s t same (view_style v.runs) shows)
 
     -- of choices that fill solids it is decided which fit
-    pub sifted : HasRuns e → (choices : List (List Bool)) (solids : List (List Cell)) → Fill choices solids → Each IsSolid solids
+    pub sifted : HasRuns e → (choices : List (List Bool)) (solids : List (List Cell)) → Fill choices solids
         → (kept : List (List Bool)) × AreThose (FitsChoice p e) choices kept
-    sifted runs [] [] filled solid = ([], refl)
-    sifted runs [] (s ∷ solids) filled solid = absurd filled
-    sifted runs (c ∷ choices) [] filled solid = absurd filled
-    sifted runs (c ∷ choices) (s ∷ solids) (long, union, filled) (is, solid) =
-        let (kept, are) = sifted runs choices solids filled solid in
+    sifted runs [] [] filled = ([], refl)
+    sifted runs [] (s ∷ solids) filled = absurd filled
+    sifted runs (c ∷ choices) [] filled = absurd filled
+    sifted runs (c ∷ choices) (s ∷ solids) (long, union, filled) =
+        let (kept, are) = sifted runs choices solids filled in
         ⊎_elim {C = (kept : List (List Bool)) × AreThose (FitsChoice p e) (c ∷ choices) kept}
         (λ fits. (c ∷ kept, inr (fits, (kept, refl, are)))) (λ none. (kept, inl (none, are)))
         (as_decided (FitsRuns e s) (FitsChoice p e c) (λ fits. λ t union_too. runs_same s t (one_solid c s t union union_too) fits) (λ all. all s union)
-        (fits_decided e runs s is))
+        (fits_decided (coordinates_of p.grid) ascends (cells_of_choice p.blocks.numbers c) s union e runs))
 
--- where no view is asked for each choice fits
+-- where nothing is asked for each choice fits
 pub unasked_fit : (p : ProblemParts) (e : FurtherRuns) → AsksForNone e → (choice : List Bool) → FitsChoice p e choice
-unasked_fit p e none choice s union x =
-    subst (λ (o : Option ViewRuns). IfSome o (λ v. ShowsMoved (further_frame x) (is_full s) (view_style v) (seen_as x))) (sym (none x)) tt
+unasked_fit p e none choice s union = subst (λ (others : FurtherRuns). FitsRuns others s) (sym none) tt

@@ -1,74 +1,84 @@
--- The columns of a further view are those of the view opposite to it, of the turned grid cells.
-use Rattle.std.proofs.Common.{◌≡◌, Bool, true, false, ◌&&◌, nat_lt, ℕ, ◌+◌, ◌-◌, ◌*◌, ◌<◌, List, slice_index_or, ℤ, pos, negsuc, refl, ap, sym, subst, ◌∙◌, arith}
+-- The columns of a layer are those of its view, of the turned grid cells.
+use Rattle.std.proofs.Common.{◌≡◌, Bool, true, false, ◌&&◌, nat_lt, ℕ, ◌+◌, ◌-◌, ◌*◌, ◌<◌, List, slice_index_or, ℤ, pos, negsuc, if◌then◌else◌, refl, ap, sym, subst, ◌∙◌, arith}
 use Rattle.std.proofs.lemmas.Bool.{ltb-true}
 use Rattle.solid_model.specs.declared.cell.Axis.{Axis}
 use Rattle.solid_model.specs.declared.cell.Axis.TheVariants.{X, Y, Z}
 use Rattle.solid_model.specs.declared.frame.Frame.{Frame}
+use Rattle.solid_model.specs.declared.frame.View.{View}
+use Rattle.solid_model.specs.declared.frame.View.TheVariants.{Front, Top, Side}
 use Rattle.lemmas.specs.Bits.{bits}
 use Rattle.solid_model.specs.Frames.{frame_of}
 use Rattle.solid_model.specs.Grid.{GridCell}
+use Rattle.solid_model.specs.WalledBoxes.{same_axis}
 use Rattle.column_lanes.specs.declared.column.Column.{Column}
 use Rattle.solid_model.specs.GridPlaces.{place_in, grid_cell_in}
 use Rattle.column_laws.specs.GridColumns.{grid_column}
 use Rattle.columns.specs.ColumnLists.{listed_column, AreColumns}
-use Rattle.dxf_entities.specs.declared.extra.Extra.{Extra}
-use Rattle.dxf_entities.specs.declared.extra.Extra.TheVariants.{Left, Rear, Bottom}
-use Rattle.further_views.specs.Further.{seen_as}
-use Rattle.six_views.specs.FurtherFrames.{further_frame}
+use Rattle.dxf_entities.specs.declared.layer.Layer.{Layer}
+use Rattle.six_views.specs.SightFrames.{opposite_frame, sight_frame}
 use Rattle.six_views.specs.Turned.{turn_axis, turned_numbers, AreTurnedCells}
 
 -- along an axis from the other end, twice
 twice : (size k : ℕ) → k < size → size - ((size - (k + 1)) + 1) ≡ k
 twice size k l = omega arith
 
--- the grid cell of a further view at given places is the one there of the view opposite to it, turned
-cell_turned : (x : Extra) (sizes : Axis → ℕ) (i j k : ℕ) → k < sizes (further_frame x).away.axis
-    → (b : Axis) → grid_cell_in (further_frame x) sizes i j k b ≡ turned_numbers (turn_axis x) sizes (grid_cell_in (frame_of (seen_as x)) sizes i j k) b
-cell_turned Left sizes i j k l X = sym (twice (sizes X) k l)
-cell_turned Left sizes i j k l Y = refl
-cell_turned Left sizes i j k l Z = refl
-cell_turned Rear sizes i j k l X = refl
-cell_turned Rear sizes i j k l Y = refl
-cell_turned Rear sizes i j k l Z = refl
-cell_turned Bottom sizes i j k l X = refl
-cell_turned Bottom sizes i j k l Y = refl
-cell_turned Bottom sizes i j k l Z = sym (twice (sizes Z) k l)
+-- the grid cell of a layer at given places is the one there of its view, turned
+cell_turned : (x : Layer) (sizes : Axis → ℕ) (i j k : ℕ) → k < sizes (sight_frame x).away.axis
+    → (b : Axis) → grid_cell_in (sight_frame x) sizes i j k b ≡ turned_numbers x sizes (grid_cell_in (frame_of x.view) sizes i j k) b
+cell_turned x sizes i j k = by x.opposite x.view
+  where
+    by : (opposite : Bool) (v : View) → k < sizes (if opposite then opposite_frame v else frame_of v).away.axis → (b : Axis)
+        → grid_cell_in (if opposite then opposite_frame v else frame_of v) sizes i j k b
+        ≡ (if (if opposite then same_axis (turn_axis v) b else true) then grid_cell_in (frame_of v) sizes i j k b
+        else (sizes b - (grid_cell_in (frame_of v) sizes i j k b + 1)))
+    by false v l b = refl
+    by true Side l X = sym (twice (sizes X) k l)
+    by true Side l Y = refl
+    by true Side l Z = refl
+    by true Front l X = refl
+    by true Front l Y = refl
+    by true Front l Z = refl
+    by true Top l X = refl
+    by true Top l Y = refl
+    by true Top l Z = sym (twice (sizes Z) k l)
 
 -- the cells of a view's columns lie in the box
-within : (x : Extra) (sizes : Axis → ℕ) (i j k : ℕ) → i < sizes (frame_of (seen_as x)).right.axis → j < sizes (frame_of (seen_as x)).up.axis
-    → k < sizes (frame_of (seen_as x)).away.axis → (b : Axis) → grid_cell_in (frame_of (seen_as x)) sizes i j k b < sizes b
-within Left sizes i j k l m n X = omega arith
-within Left sizes i j k l m n Y = l
-within Left sizes i j k l m n Z = m
-within Rear sizes i j k l m n X = l
-within Rear sizes i j k l m n Y = n
-within Rear sizes i j k l m n Z = m
-within Bottom sizes i j k l m n X = l
-within Bottom sizes i j k l m n Y = m
-within Bottom sizes i j k l m n Z = omega arith
+within : (v : View) (sizes : Axis → ℕ) (i j k : ℕ) → i < sizes (frame_of v).right.axis → j < sizes (frame_of v).up.axis
+    → k < sizes (frame_of v).away.axis → (b : Axis) → grid_cell_in (frame_of v) sizes i j k b < sizes b
+within Side sizes i j k l m n X = omega arith
+within Side sizes i j k l m n Y = l
+within Side sizes i j k l m n Z = m
+within Front sizes i j k l m n X = l
+within Front sizes i j k l m n Y = n
+within Front sizes i j k l m n Z = m
+within Top sizes i j k l m n X = l
+within Top sizes i j k l m n Y = m
+within Top sizes i j k l m n Z = omega arith
 
--- both views have the same axes
-same_right : (x : Extra) → (further_frame x).right.axis ≡ (frame_of (seen_as x)).right.axis
-same_right Left = refl
-same_right Rear = refl
-same_right Bottom = refl
+-- both sides of a view have the same axes
+same_axes : (opposite : Bool) (v : View) → ((if opposite then opposite_frame v else frame_of v).right.axis ≡ (frame_of v).right.axis)
+    × (((if opposite then opposite_frame v else frame_of v).up.axis ≡ (frame_of v).up.axis)
+    × ((if opposite then opposite_frame v else frame_of v).away.axis ≡ (frame_of v).away.axis))
+same_axes false v = (refl, (refl, refl))
+same_axes true Front = (refl, (refl, refl))
+same_axes true Top = (refl, (refl, refl))
+same_axes true Side = (refl, (refl, refl))
 
-same_up : (x : Extra) → (further_frame x).up.axis ≡ (frame_of (seen_as x)).up.axis
-same_up Left = refl
-same_up Rear = refl
-same_up Bottom = refl
+same_right : (x : Layer) → (sight_frame x).right.axis ≡ (frame_of x.view).right.axis
+same_right x = (same_axes x.opposite x.view).0
 
-same_away : (x : Extra) → (further_frame x).away.axis ≡ (frame_of (seen_as x)).away.axis
-same_away Left = refl
-same_away Rear = refl
-same_away Bottom = refl
+same_up : (x : Layer) → (sight_frame x).up.axis ≡ (frame_of x.view).up.axis
+same_up x = (same_axes x.opposite x.view).1.0
 
-module _ (x : Extra) (sizes : Axis → ℕ) (chosen turned : List Bool) (are : AreTurnedCells (turn_axis x) sizes chosen turned) where
+same_away : (x : Layer) → (sight_frame x).away.axis ≡ (frame_of x.view).away.axis
+same_away x = (same_axes x.opposite x.view).1.1
+
+module _ (x : Layer) (sizes : Axis → ℕ) (chosen turned : List Bool) (are : AreTurnedCells x sizes chosen turned) where
   abbrev f : Frame
-  f = further_frame x
+  f = sight_frame x
 
   abbrev main : Frame
-  main = frame_of (seen_as x)
+  main = frame_of x.view
 
   pub column_turned : (i j : ℕ) → i < sizes main.right.axis → j < sizes main.up.axis → (k : ℤ) → grid_column f sizes chosen i j k ≡ grid_column main sizes turned i j k
   column_turned i j l m (negsuc k) = refl
@@ -80,7 +90,7 @@ module _ (x : Extra) (sizes : Axis → ℕ) (chosen turned : List Bool) (are : A
           let l_main : k < sizes main.away.axis = ltb-true k (sizes main.away.axis) e in
           let l_further : k < sizes f.away.axis = subst (λ (a : Axis). k < sizes a) (sym (same_away x)) l_main in
           ap (λ (n : GridCell). slice_index_or chosen (place_in sizes n) false) (λ t b. cell_turned x sizes i j k l_further b t)
-          ∙ sym (are (grid_cell_in main sizes i j k) (within x sizes i j k l m l_main))
+          ∙ sym (are (grid_cell_in main sizes i j k) (within x.view sizes i j k l m l_main))
 
       by : (t : Bool) → nat_lt k (sizes main.away.axis) ≡ t → grid_column f sizes chosen i j (pos k) ≡ grid_column main sizes turned i j (pos k)
       by true e = (λ t. nat_lt k (sizes (same_away x t)) && here e t)

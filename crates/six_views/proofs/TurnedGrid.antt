@@ -1,20 +1,21 @@
--- A union of grid cells, turned half round an axis, is the union of the turned grid's cells.
+-- A union of grid cells, turned to be seen as a layer, is the union of the turned grid's cells.
 use Rattle.std.proofs.Common.{◌≡◌, Bool, true, false, ℕ, zero, suc, ◌+◌, ◌-◌, ◌<◌, List, [], ◌∷◌, ◌++◌, length, slice_index_or, ℤ, pos, neg_ℤ, ◌-ℤ◌, ◌<ℤ◌, if◌then◌else◌, refl, ap, sym, subst, ◌∙◌, arith}
 use Rattle.std.proofs.Math.Seq.{get_or-append_seam}
 use Rattle.std.proofs.lemmas.Int.{ints}
 use Rattle.std.proofs.lemmas.List.{length-append, get_or_append_left}
+use Rattle.dxf_entities.specs.declared.layer.Layer.{Layer}
 use Rattle.solid_model.specs.declared.cell.Axis.{Axis}
 use Rattle.solid_model.specs.declared.cell.Axis.TheVariants.{X, Y, Z}
 use Rattle.solid_model.specs.declared.cell.Cell.{Cell}
 use Rattle.solid_model.specs.Cells.{coordinate}
 use Rattle.solid_model.specs.Grid.{Coordinates, GridCell, is_in_gap, IsInSomeGap, LiesInGridCell, gaps_along, IsUnionOf}
 use Rattle.lemmas.specs.Lists.{Each, Ascends}
-use Rattle.solid_model.specs.Rooms.{same_axis}
+use Rattle.solid_model.specs.WalledBoxes.{same_axis}
 use Rattle.solid_model.proofs.Gaps.{member, lies_in, in_gap}
 use Rattle.lemmas.proofs.Lists.{each-append, ascends-append}
 use Rattle.solid_model.specs.GridPlaces.{place_in}
 use Rattle.column_laws.specs.GridPanels.{HasCounts}
-use Rattle.six_views.specs.Turned.{half_turned, mirrored_places, turned_coordinates, turned_numbers, AreTurnedCells}
+use Rattle.six_views.specs.Turned.{half_turned, mirrored_places, stays, turn_axis, turned_cell, turned_coordinates, turned_numbers, AreTurnedCells}
 use Rattle.six_views.proofs.Turned.{mirrored_twice}
 
 -- ---- mirrored lists
@@ -71,24 +72,32 @@ to_mirrored zs n z e =
 -- ---- turned grids
 
 -- a turned cell's coordinates
-pub coordinate-turned : (a b : Axis) (c : Cell) → coordinate b (half_turned a c) ≡ (if same_axis a b then coordinate b c else (neg_ℤ (coordinate b c) -ℤ pos 1))
-coordinate-turned X X c = refl
-coordinate-turned X Y c = refl
-coordinate-turned X Z c = refl
-coordinate-turned Y X c = refl
-coordinate-turned Y Y c = refl
-coordinate-turned Y Z c = refl
-coordinate-turned Z X c = refl
-coordinate-turned Z Y c = refl
-coordinate-turned Z Z c = refl
+coordinate-half_turned : (a b : Axis) (c : Cell) → coordinate b (half_turned a c) ≡ (if same_axis a b then coordinate b c else (neg_ℤ (coordinate b c) -ℤ pos 1))
+coordinate-half_turned X X c = refl
+coordinate-half_turned X Y c = refl
+coordinate-half_turned X Z c = refl
+coordinate-half_turned Y X c = refl
+coordinate-half_turned Y Y c = refl
+coordinate-half_turned Y Z c = refl
+coordinate-half_turned Z X c = refl
+coordinate-half_turned Z Y c = refl
+coordinate-half_turned Z Z c = refl
 
-module _ (a : Axis) (coordinates : Coordinates) where
+pub coordinate-turned : (x : Layer) (b : Axis) (c : Cell) → coordinate b (turned_cell x c) ≡ (if stays x b then coordinate b c else (neg_ℤ (coordinate b c) -ℤ pos 1))
+coordinate-turned x b c = by x.opposite
+  where
+    by : (opposite : Bool) → coordinate b (if opposite then half_turned (turn_axis x.view) c else c)
+        ≡ (if (if opposite then same_axis (turn_axis x.view) b else true) then coordinate b c else (neg_ℤ (coordinate b c) -ℤ pos 1))
+    by true = coordinate-half_turned (turn_axis x.view) b c
+    by false = refl
+
+module _ (x : Layer) (coordinates : Coordinates) where
   abbrev turned : Coordinates
-  turned = turned_coordinates a coordinates
+  turned = turned_coordinates x coordinates
 
   -- a turned grid has as many coordinates,
   pub count-turned : (b : Axis) → length (turned b) ≡ length (coordinates b)
-  count-turned b = by (same_axis a b)
+  count-turned b = by (stays x b)
     where
       by : (t : Bool) → length (if t then coordinates b else mirrored_places (coordinates b)) ≡ length (coordinates b)
       by true = refl
@@ -99,15 +108,15 @@ module _ (a : Axis) (coordinates : Coordinates) where
 
   -- in order
   pub counts-turned : (counts : Axis → ℕ) → HasCounts counts coordinates → HasCounts counts turned
-  counts-turned counts has = record { ordered = λ b. by b (same_axis a b); count = λ b. count-turned b ∙ has.count b }
+  counts-turned counts has = record { ordered = λ b. by b (stays x b); count = λ b. count-turned b ∙ has.count b }
     where
       by : (b : Axis) (t : Bool) → Ascends ◌<ℤ◌ (if t then coordinates b else mirrored_places (coordinates b))
       by b true = has.ordered b
       by b false = ascends-mirrored (coordinates b) (has.ordered b)
 
   -- a cell of the turned grid, turned, lies in the cell of the grid that comes there
-  lies_turned : (n : GridCell) (c : Cell) → LiesInGridCell turned n c → LiesInGridCell coordinates (turned_numbers a (gaps_along coordinates) n) (half_turned a c)
-  lies_turned n c lies b = rw (coordinate-turned a b c) (by (same_axis a b) (lies b))
+  lies_turned : (n : GridCell) (c : Cell) → LiesInGridCell turned n c → LiesInGridCell coordinates (turned_numbers x (gaps_along coordinates) n) (turned_cell x c)
+  lies_turned n c lies b = rw (coordinate-turned x b c) (by (stays x b) (lies b))
     where
       by : (t : Bool) → is_in_gap (if t then coordinates b else mirrored_places (coordinates b)) (n b) (coordinate b c) ≡ true
           → is_in_gap (coordinates b) (if t then n b else (gaps_along coordinates b - (n b + 1))) (if t then coordinate b c else (neg_ℤ (coordinate b c) -ℤ pos 1)) ≡ true
@@ -115,8 +124,8 @@ module _ (a : Axis) (coordinates : Coordinates) where
       by false e = from_mirrored (coordinates b) (n b) (coordinate b c) e
 
   -- what lies in the grid when it is turned lies in the turned grid
-  gap_turned : (c : Cell) (b : Axis) → IsInSomeGap (coordinates b) (coordinate b (half_turned a c)) → IsInSomeGap (turned b) (coordinate b c)
-  gap_turned c b (m, e) = by (same_axis a b) (subst (λ z. is_in_gap (coordinates b) m z ≡ true) (coordinate-turned a b c) e)
+  gap_turned : (c : Cell) (b : Axis) → IsInSomeGap (coordinates b) (coordinate b (turned_cell x c)) → IsInSomeGap (turned b) (coordinate b c)
+  gap_turned c b (m, e) = by (stays x b) (subst (λ z. is_in_gap (coordinates b) m z ≡ true) (coordinate-turned x b c) e)
     where
       by : (t : Bool) → is_in_gap (coordinates b) m (if t then coordinate b c else (neg_ℤ (coordinate b c) -ℤ pos 1)) ≡ true
           → IsInSomeGap (if t then coordinates b else mirrored_places (coordinates b)) (coordinate b c)
@@ -133,10 +142,10 @@ module _ (a : Axis) (coordinates : Coordinates) where
 
   -- the union of the turned cells is the union, turned
   pub union_turned : (chosen chosen_too : List Bool) (full : Cell → Bool) → IsUnionOf coordinates chosen full
-      → AreTurnedCells a (gaps_along coordinates) chosen chosen_too → IsUnionOf turned chosen_too (λ c. full (half_turned a c))
+      → AreTurnedCells x (gaps_along coordinates) chosen chosen_too → IsUnionOf turned chosen_too (λ c. full (turned_cell x c))
   union_turned chosen chosen_too full union are = record {
-    inside = λ n c lies. union.inside (turned_numbers a (gaps_along coordinates) n) (half_turned a c) (lies_turned n c lies)
+    inside = λ n c lies. union.inside (turned_numbers x (gaps_along coordinates) n) (turned_cell x c) (lies_turned n c lies)
         ∙ sym (are n (λ b. few_gap b (n b) (coordinate b c) (lies b)))
         ∙ ap (λ (sizes : Axis → ℕ). slice_index_or chosen_too (place_in sizes n) false) (sym gaps-turned);
-    outside = λ c none. union.outside (half_turned a c) (λ lies. none (λ b. gap_turned c b (lies b)));
+    outside = λ c none. union.outside (turned_cell x c) (λ lies. none (λ b. gap_turned c b (lies b)));
   }

@@ -1,5 +1,6 @@
-//! What a further view shows of chosen grid cells, as the view opposite to it shows it of the
-//! turned solid. No cell is turned: the view's own columns are those of the turned grid cells.
+//! What a layer's whole view shows of chosen grid cells, as its view shows it of the solid, turned
+//! where it is seen from the opposite side. No cell is turned: the layer's own columns are the
+//! view's of the turned grid cells.
 
 ghost use Rattle.std.specs.Prelude.{◌≡◌, Bool, List, ℤ, IfOk};
 ghost use Rattle.solid_model.specs.declared.cell.Cell.{Cell};
@@ -10,15 +11,15 @@ ghost use Rattle.solid_model.specs.Grid.{IsUnionOf};
 ghost use Rattle.solid_model.specs.Panels.{coordinates_of};
 ghost use Rattle.solid_model.specs.Runs.{run_style};
 ghost use Rattle.solid_model.specs.Segments.{segment_at};
-ghost use Rattle.further_views.specs.Further.{seen_as, view_style};
-ghost use Rattle.six_views.specs.Turned.{AreFurtherColumns, turn_axis, turned_cells, mirrored_places, turned_coordinates};
+ghost use Rattle.further_views.specs.Further.{view_style};
+ghost use Rattle.six_views.specs.Turned.{AreSightColumns, mirrored_places, stays, turn_axis, turned_cells, turned_coordinates};
 
-use crate::frames::frame_of;
+use crate::frames::sight_frame;
 use column_lanes::Column;
 use columns::{counts_of, styles_along, view_columns};
-use further_views::{Extra, seen_as};
+use further_views::Layer;
 use redraw::runs_on;
-use solid_model::{Axis, Grid, Memory, Runs, ViewLines};
+use solid_model::{Axis, Grid, Memory, Runs, View, ViewLines};
 use std::alloc::Global;
 
 /// The coordinates of a grid along an axis, each with the other sign, in order.
@@ -34,72 +35,78 @@ fn mirrored_places(alloc: Global, grid: &Grid, axis: Axis) -> Result<Vec<i64>, M
     Ok(places)
 }
 
-/// The axis round which a solid is turned to be seen from the other side.
-fn turn_axis(extra: Extra) -> Axis
-    ensures { result ≡ turn_axis extra }
+/// The axis round which a solid is turned to be seen from the side opposite to a view's own.
+fn turn_axis(view: View) -> Axis
+    ensures { result ≡ turn_axis view }
 {
-    match extra {
-        Extra::Left | Extra::Rear => Axis::Z,
-        Extra::Bottom => Axis::X,
+    match view {
+        View::Front | View::Side => Axis::Z,
+        View::Top => Axis::X,
     }
 }
 
-/// The coordinates along an axis of a grid that is turned to be seen from the other side.
+/// Along this axis a layer sees coordinates as they are, and not mirrored.
+fn stays(layer: Layer, axis: Axis) -> bool
+    ensures { result ≡ stays layer axis }
+{
+    !layer.opposite || turn_axis(layer.view) == axis
+}
+
+/// The coordinates along an axis of a grid that is turned to be seen as a layer.
 pub fn turned_places(
     alloc: Global,
     grid: &Grid,
-    extra: Extra,
+    layer: Layer,
     axis: Axis,
 ) -> Result<Vec<i64>, Memory>
     ensures { IfOk result (λ places. places.items
-        ≡ turned_coordinates (turn_axis extra) (coordinates_of grid.now) axis) }
+        ≡ turned_coordinates layer (coordinates_of grid.now) axis) }
 {
-    if axis == turn_axis(extra) {
+    if stays(layer, axis) {
         Ok(Vec::from_slice(alloc, grid.coordinates(axis))?)
     } else {
         mirrored_places(alloc, grid, axis)
     }
 }
 
-/// The level, or the upright, runs that a further view shows, whose columns are these.
+/// The level, or the upright, runs that a layer's whole view shows, whose columns are these.
 fn runs_along(
     alloc: Global,
     grid: &Grid,
-    extra: Extra,
+    layer: Layer,
     columns: &[Column],
     upright: bool,
 ) -> Result<Runs, Memory>
     requires { (chosen : List Bool)
-        × AreFurtherColumns extra (coordinates_of grid.now) chosen columns.now }
+        × AreSightColumns layer (coordinates_of grid.now) chosen columns.now }
     ensures { IfOk result (λ runs. (chosen : List Bool) (s : List Cell)
-        → AreFurtherColumns extra (coordinates_of grid.now) chosen columns.now
+        → AreSightColumns layer (coordinates_of grid.now) chosen columns.now
         → IsUnionOf (coordinates_of grid.now) chosen (is_full s) → (j z : ℤ)
         → run_style runs j z
-        ≡ solid_drawing (turned_cells extra s) (segment_at (seen_as extra) upright z j)) }
+        ≡ solid_drawing (turned_cells layer s) (segment_at layer.view upright z j)) }
 {
-    let view = seen_as(extra);
-    let frame = view.frame();
-    let styles = styles_along(alloc, view, counts_of(grid), columns, upright)?;
-    let lines = turned_places(alloc, grid, extra, frame.across(upright).axis)?;
-    let ends = turned_places(alloc, grid, extra, frame.along(upright).axis)?;
+    let frame = layer.view.frame();
+    let styles = styles_along(alloc, layer.view, counts_of(grid), columns, upright)?;
+    let lines = turned_places(alloc, grid, layer, frame.across(upright).axis)?;
+    let ends = turned_places(alloc, grid, layer, frame.along(upright).axis)?;
     Ok(Runs::new(runs_on(alloc, &lines, &ends, &styles)?))
 }
 
-/// The runs that a further view shows of the chosen cells of a grid, wherever they begin.
+/// The runs that a layer's whole view shows of the chosen cells of a grid, wherever they begin.
 pub fn seen_lines(
     alloc: Global,
     grid: &Grid,
-    extra: Extra,
+    layer: Layer,
     cells: &[bool],
 ) -> Result<ViewLines, Memory>
     ensures { IfOk result (λ lines. (s : List Cell)
         → IsUnionOf (coordinates_of grid.now) cells.now (is_full s)
-        → (g : Segment) → g.view ≡ seen_as extra
-        → view_style lines g ≡ solid_drawing (turned_cells extra s) g) }
+        → (g : Segment) → g.view ≡ layer.view
+        → view_style lines g ≡ solid_drawing (turned_cells layer s) g) }
 {
-    let columns = view_columns(alloc, frame_of(extra), counts_of(grid).gaps(), cells)?;
+    let columns = view_columns(alloc, sight_frame(layer), counts_of(grid).gaps(), cells)?;
     Ok(ViewLines {
-        level: runs_along(alloc, grid, extra, &columns, false)?,
-        upright: runs_along(alloc, grid, extra, &columns, true)?,
+        level: runs_along(alloc, grid, layer, &columns, false)?,
+        upright: runs_along(alloc, grid, layer, &columns, true)?,
     })
 }

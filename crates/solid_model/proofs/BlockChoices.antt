@@ -14,19 +14,19 @@ use Rattle.lemmas.specs.Lists.{Each, Ascends}
 use Rattle.solid_model.specs.Matching.{Matches, AreSolidsOf, AreSomeSolidsOf}
 use Rattle.solid_model.specs.Orders.{SolidPrecedes}
 use Rattle.solid_model.specs.Panels.{GridParts, coordinates_of, IsGridOf}
-use Rattle.solid_model.specs.Rooms.{is_within, number_at}
+use Rattle.solid_model.specs.WalledBoxes.{is_within, number_at}
 use Rattle.solid_model.specs.VirtualFaces.{IsVirtual}
 use Rattle.solid_model.specs.GridBox.{grid_sizes, grid_cell_of}
 use Rattle.solid_model.proofs.BoxPlaces.{cell_of_place, cell_of_place-within, cell_of_place-there}
 use Rattle.solid_model.proofs.ChosenSolids.{union_precedes, matching_union}
 use Rattle.solid_model.proofs.ConstantOnBlocks.{same_in_joined, empty_in_outside}
 use Rattle.solid_model.proofs.Corners.{corners, corner_of, corner_lies, length-corners, within-is_grid_cell}
-use Rattle.solid_model.proofs.ItemOrder.{AreInOrder, rooms_in_order, length-cells_of_choice, cells_precede, one_choice, IsConstant, choice_of_cells}
+use Rattle.solid_model.proofs.ItemOrder.{AreInOrder, enclosed_in_order, length-cells_of_choice, cells_precede, one_choice, IsConstant, choice_of_cells}
 use Rattle.solid_model.proofs.SolidsOfChoices.{all_solids, some_solids, choices_of_solids}
 
 -- blocks are numbered by their first cells
 blocks_in_order : (g : GridParts) (blocks : List (Option ℕ)) (count : ℕ) → AreBlocksOf g blocks count → AreInOrder blocks count
-blocks_in_order g = rooms_in_order (grid_sizes g) (IsVirtual g)
+blocks_in_order g = enclosed_in_order (grid_sizes g) (IsVirtual g)
 
 module _ (drawing : Segment → Style) (g : GridParts) (grid : IsGridOf drawing g)
     (blocks : List (Option ℕ)) (count : ℕ) (are : AreBlocksOf g blocks count) where

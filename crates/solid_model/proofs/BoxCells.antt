@@ -6,7 +6,7 @@ use Rattle.solid_model.specs.declared.cell.Axis.{Axis}
 use Rattle.solid_model.specs.declared.cell.Axis.TheVariants.{X, Y, Z}
 use Rattle.solid_model.specs.declared.cell.Cell.{Cell}
 use Rattle.solid_model.specs.Cells.{coordinate}
-use Rattle.solid_model.specs.Rooms.{Sizes, is_below, is_within, place_of_number}
+use Rattle.solid_model.specs.WalledBoxes.{Sizes, is_below, is_within, place_of_number}
 
 -- ---- numbers within a size
 

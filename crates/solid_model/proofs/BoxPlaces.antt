@@ -10,7 +10,7 @@ use Rattle.solid_model.specs.declared.per_axis.PerAxis.{PerAxis}
 use Rattle.solid_model.specs.Cells.{coordinate, cell_at}
 use Rattle.solid_model.specs.Orders.{ComesBefore}
 use Rattle.solid_model.specs.PerAxis.{numbers_of, cell_of, numbered, AreFew}
-use Rattle.solid_model.specs.Rooms.{Sizes, is_below, is_within, box_place, box_count, same_axis, face_sizes}
+use Rattle.solid_model.specs.WalledBoxes.{Sizes, is_below, is_within, box_place, box_count, same_axis, face_sizes}
 use Rattle.solid_model.specs.Kept.{edge_sizes}
 use Rattle.solid_model.proofs.BoxCells.{place-below, within-below, below-within}
 use Rattle.solid_model.proofs.CellOrder.{LiesBefore, before-lies, one_or_before}

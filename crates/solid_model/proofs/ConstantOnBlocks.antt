@@ -12,7 +12,7 @@ use Rattle.solid_model.specs.Edges.{is_edge}
 use Rattle.solid_model.specs.Grid.{LiesInGridCell}
 use Rattle.solid_model.specs.Matching.{Matches}
 use Rattle.solid_model.specs.Panels.{GridParts, coordinates_of, IsGridOf}
-use Rattle.solid_model.specs.Rooms.{is_below, is_within, same_axis, face_sizes, Passes, LeadsOut}
+use Rattle.solid_model.specs.WalledBoxes.{is_below, is_within, same_axis, face_sizes, Passes, LeadsOut}
 use Rattle.solid_model.specs.VirtualFaces.{axis_across_both, is_barred, Bars, IsVirtual}
 use Rattle.solid_model.specs.GridBox.{grid_sizes, grid_cell_of, IsGridFullness}
 use Rattle.solid_model.proofs.BoxCells.{below-more, below-next, outside-below}

@@ -12,7 +12,7 @@ use Rattle.solid_model.specs.Grid.{Coordinates, GridCell, is_in_gap, LiesInGridC
 use Rattle.lemmas.specs.Lists.{Each, Ascends}
 use Rattle.solid_model.specs.Orders.{ComesBefore}
 use Rattle.solid_model.specs.Panels.{starts_of}
-use Rattle.solid_model.specs.Rooms.{is_within}
+use Rattle.solid_model.specs.WalledBoxes.{is_within}
 use Rattle.solid_model.specs.GridBox.{grid_cell_of}
 use Rattle.solid_model.proofs.BoxCells.{place-below, within-below}
 use Rattle.solid_model.proofs.CellOrder.{lies-before}

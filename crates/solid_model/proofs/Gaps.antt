@@ -4,7 +4,7 @@ use Rattle.std.proofs.lemmas.Bool.{false≢true, and_parts, and_from, cases_lt}
 use Rattle.std.proofs.lemmas.Int.{ints}
 use Rattle.solid_model.specs.Grid.{is_in_gap}
 use Rattle.lemmas.specs.Lists.{Ascends}
-use Rattle.solid_model.specs.Rooms.{place_of_number}
+use Rattle.solid_model.specs.WalledBoxes.{place_of_number}
 use Rattle.lemmas.proofs.ListPlaces.{ascends-pairs}
 
 -- a member by its place

@@ -6,7 +6,7 @@ use Rattle.solid_model.specs.declared.cell.Axis.TheVariants.{X, Y, Z}
 use Rattle.solid_model.specs.declared.cell.Cell.{Cell}
 use Rattle.solid_model.specs.Cells.{cell_before}
 use Rattle.solid_model.specs.Edges.{second_axis, third_axis, is_edge, is_edge_of}
-use Rattle.solid_model.specs.Rooms.{same_axis}
+use Rattle.solid_model.specs.WalledBoxes.{same_axis}
 use Rattle.solid_model.specs.VirtualFaces.{axis_across_both}
 use Rattle.solid_model.proofs.ColumnRule.{edge_where_parting, same_from_agree}
 use Rattle.solid_model.proofs.Views.{is_edge_of_turned, is_edge_of_flipped}

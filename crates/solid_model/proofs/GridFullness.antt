@@ -14,7 +14,7 @@ use Rattle.solid_model.specs.Grid.{is_in_gap, LiesInGridCell}
 use Rattle.lemmas.specs.Lists.{Ascends}
 use Rattle.solid_model.specs.Matching.{Matches}
 use Rattle.solid_model.specs.Panels.{GridParts, coordinates_of, IsGridOf}
-use Rattle.solid_model.specs.Rooms.{is_below, is_within, place_of_number}
+use Rattle.solid_model.specs.WalledBoxes.{is_below, is_within, place_of_number}
 use Rattle.solid_model.specs.GridBox.{grid_sizes, grid_cell_of, IsGridFullness}
 use Rattle.solid_model.proofs.BoxCells.{below-more, below-next, within-below, outside-below}
 use Rattle.solid_model.proofs.Gaps.{member_of, begins_gap, ends_gap, last_in_none, before_first_in_none}

@@ -7,7 +7,7 @@ use Rattle.solid_model.specs.declared.segment.Segment.{Segment}
 use Rattle.solid_model.specs.declared.segment.Style.{Style}
 use Rattle.solid_model.specs.declared.segment.Style.TheVariants.{Blank}
 use Rattle.solid_model.specs.Panels.{GridParts, coordinates_of, starts_of, AreGridStyles}
-use Rattle.solid_model.specs.Rooms.{is_below}
+use Rattle.solid_model.specs.WalledBoxes.{is_below}
 use Rattle.solid_model.specs.Segments.{segment_at}
 use Rattle.solid_model.specs.GridBox.{grid_sizes, axis_along, axis_across, grid_style}
 use Rattle.solid_model.proofs.Corners.{length-starts_of}

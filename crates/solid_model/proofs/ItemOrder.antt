@@ -3,7 +3,7 @@
 use Rattle.std.proofs.Common.{◌≡◌, inl, inr, Bool, true, false, ℕ, zero, suc, ◌+◌, ◌<◌, List, [], ◌∷◌, ◌++◌, length, get_or, Option, Some, None, refl, ap, sym, subst, ◌∙◌, arith}
 use Rattle.std.proofs.lemmas.List.{length-append, length-map, get_or-map, get_or_append_left, get_or_push, ext_get_or}
 use Rattle.solid_model.specs.Choices.{ChoicePrecedes, is_chosen, cells_of_choice}
-use Rattle.solid_model.specs.Rooms.{Sizes, is_within, box_place, Walls, number_at, IsEarlier, AreRooms}
+use Rattle.solid_model.specs.WalledBoxes.{Sizes, is_within, box_place, Walls, number_at, IsEarlier, AreEnclosed}
 use Rattle.solid_model.proofs.BoxPlaces.{cell_of_place, cell_of_place-within, cell_of_place-there, cell_there, earlier_before}
 use Rattle.lemmas.proofs.Decisions.{holds_below_next}
 
@@ -15,10 +15,10 @@ pub record AreInOrder (items : List (Option ℕ)) (n : ℕ) : Type 0 where
   pub first : (k : ℕ) → k < n → (p : ℕ) × (p < length items) × (get_or items p None ≡ Some k)
       × ((q : ℕ) → q < p → IsEarlier k (get_or items q None))
 
--- the rooms of a box are
-pub rooms_in_order : (sizes : Sizes) (wall : Walls) (numbers : List (Option ℕ)) (count : ℕ) → AreRooms sizes wall numbers count
+-- the enclosed components of a box are
+pub enclosed_in_order : (sizes : Sizes) (wall : Walls) (numbers : List (Option ℕ)) (count : ℕ) → AreEnclosed sizes wall numbers count
     → AreInOrder numbers count
-rooms_in_order sizes wall numbers count are = record {
+enclosed_in_order sizes wall numbers count are = record {
   below = λ p k l e. are.below (cell_of_place sizes p) k (within p l) (at_place p ∙ e);
   first = λ k l.
       let (n, n_in, is, none) = are.first k l in

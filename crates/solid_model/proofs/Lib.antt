@@ -41,7 +41,7 @@ pub mod Numbers
 pub mod OneNumbering
 mod OneProblem
 pub mod Passages
-pub mod Rooms
+pub mod EnclosedNumbers
 pub mod ItemOrder
 pub mod NumberedPlaces
 pub mod SomeNumbering

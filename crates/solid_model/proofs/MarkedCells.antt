@@ -7,7 +7,7 @@ use Rattle.solid_model.specs.declared.cell.Cell.{Cell}
 use Rattle.solid_model.specs.declared.per_axis.PerAxis.{PerAxis}
 use Rattle.solid_model.specs.Marks.{BoxMarks, is_marked, AreMarksOf, AxisMarks, marks_along}
 use Rattle.solid_model.specs.PerAxis.{numbers_of}
-use Rattle.solid_model.specs.Rooms.{Sizes, is_within, box_place, box_count}
+use Rattle.solid_model.specs.WalledBoxes.{Sizes, is_within, box_place, box_count}
 use Rattle.solid_model.proofs.BoxPlaces.{one_cell, cell_there}
 use Rattle.lemmas.proofs.Pushed.{HoldsSoFar}
 

@@ -3,7 +3,7 @@
 use Rattle.std.proofs.Common.{◌≡◌, ◌↔◌, ◌⊎◌, inl, inr, ℕ, zero, suc, ◌+◌, ◌<◌, List, [], ◌∷◌, ◌++◌, length, get_or, Option, Some, None, refl, ap, sym, subst, ◌∙◌, arith}
 use Rattle.std.proofs.lemmas.List.{length-append, get_or_append_left, get_or_push}
 use Rattle.std.proofs.lemmas.Option.{none-some, same_Some}
-use Rattle.solid_model.specs.Rooms.{IsEarlier}
+use Rattle.solid_model.specs.WalledBoxes.{IsEarlier}
 use Rattle.lemmas.proofs.Decisions.{IsDecided, below_next, holds_below_next, some_or_none}
 use Rattle.solid_model.proofs.ItemOrder.{AreInOrder}
 

@@ -1,18 +1,18 @@
--- The rooms of a box are numbered in one way.
+-- The enclosed components of a box are numbered in one way.
 use Rattle.std.proofs.Common.{◌≡◌, ◌⊎◌, inl, inr, true, ℕ, zero, suc, ◌<◌, ◌≤◌, List, get_or, Option, Some, None, refl, ap, sym, subst, ◌∙◌, arith}
 use Rattle.std.proofs.lemmas.Bool.{cases_lt}
 use Rattle.std.proofs.lemmas.List.{ext_get_or}
 use Rattle.std.proofs.lemmas.Option.{none-some, same_Some}
 use Rattle.solid_model.specs.declared.cell.Cell.{Cell}
 use Rattle.solid_model.specs.Orders.{ComesBefore}
-use Rattle.solid_model.specs.Rooms.{Sizes, is_within, box_place, box_count, Walls, LeadsOut, number_at, IsEarlier, AreRooms}
+use Rattle.solid_model.specs.WalledBoxes.{Sizes, is_within, box_place, box_count, Walls, LeadsOut, number_at, IsEarlier, AreEnclosed}
 use Rattle.solid_model.proofs.BoxPlaces.{cell_there, cell_of_place, cell_of_place-within, cell_of_place-there, before_earlier}
 use Rattle.solid_model.proofs.CellOrder.{one_or_before}
 
 module _ (sizes : Sizes) (wall : Walls) (numbers others : List (Option ℕ)) (count many : ℕ)
-    (are : AreRooms sizes wall numbers count) (are_too : AreRooms sizes wall others many) where
+    (are : AreEnclosed sizes wall numbers count) (are_too : AreEnclosed sizes wall others many) where
   -- Where all earlier cells have one number in both lists, a cell's second number isn't the greater one: the first cell of its
-  -- first number, by the second list, would be an earlier cell of the same room, with another number there.
+  -- first number, by the second list, would be an earlier cell of the same enclosed component, with another number there.
   not_greater : (n : Cell) → is_within sizes n ≡ true
       → ((m : Cell) → is_within sizes m ≡ true → ComesBefore m n → number_at sizes numbers m ≡ number_at sizes others m)
       → (k l : ℕ) → number_at sizes numbers n ≡ Some k → number_at sizes others n ≡ Some l → k < l → ⊥
@@ -34,7 +34,7 @@ module _ (sizes : Sizes) (wall : Walls) (numbers others : List (Option ℕ)) (co
 
 -- Two numberings agree on a cell where they do on all earlier ones.
 agree_after : (sizes : Sizes) (wall : Walls) (numbers others : List (Option ℕ)) (count many : ℕ)
-    → AreRooms sizes wall numbers count → AreRooms sizes wall others many → (n : Cell) → is_within sizes n ≡ true
+    → AreEnclosed sizes wall numbers count → AreEnclosed sizes wall others many → (n : Cell) → is_within sizes n ≡ true
     → ((m : Cell) → is_within sizes m ≡ true → ComesBefore m n → number_at sizes numbers m ≡ number_at sizes others m)
     → number_at sizes numbers n ≡ number_at sizes others n
 agree_after sizes wall numbers others count many are are_too n n_in before = by (number_at sizes numbers n) (number_at sizes others n) refl refl
@@ -51,9 +51,9 @@ agree_after sizes wall numbers others count many are are_too n n_in before = by 
       ]
     ]
 
--- so there are no more rooms by one than by the other
+-- so there are no more enclosed components by one than by the other
 no_more : (sizes : Sizes) (wall : Walls) (numbers others : List (Option ℕ)) (count many : ℕ)
-    → AreRooms sizes wall numbers count → AreRooms sizes wall others many
+    → AreEnclosed sizes wall numbers count → AreEnclosed sizes wall others many
     → ((n : Cell) → is_within sizes n ≡ true → number_at sizes numbers n ≡ number_at sizes others n) → many ≤ count
 no_more sizes wall numbers others count many are are_too same = elim (cases_lt count many) as (λ _. many ≤ count) [
   | inl less ↦ (let first = are_too.first count less in
@@ -61,9 +61,9 @@ no_more sizes wall numbers others count many are are_too same = elim (cases_lt c
   | inr most ↦ most
 ]
 
--- The rooms of a box are numbered in one way.
+-- The enclosed components of a box are numbered in one way.
 pub one_numbering : (sizes : Sizes) (wall : Walls) (numbers others : List (Option ℕ)) (count many : ℕ)
-    → AreRooms sizes wall numbers count → AreRooms sizes wall others many → (numbers ≡ others) × (count ≡ many)
+    → AreEnclosed sizes wall numbers count → AreEnclosed sizes wall others many → (numbers ≡ others) × (count ≡ many)
 one_numbering sizes wall numbers others count many are are_too = (
   ext_get_or None numbers others (are.listed ∙ sym are_too.listed) (λ p l.
       let p_in = cell_of_place-within sizes p (subst (λ c. p < c) are.listed l) in

@@ -3,7 +3,7 @@ use Rattle.std.proofs.Common.{inl, inr}
 use Rattle.solid_model.specs.declared.cell.Axis.{Axis}
 use Rattle.solid_model.specs.declared.cell.Cell.{Cell}
 use Rattle.lemmas.specs.Chains.{Reaches}
-use Rattle.solid_model.specs.Rooms.{Sizes, Walls, Passes, LeadsOut}
+use Rattle.solid_model.specs.WalledBoxes.{Sizes, Walls, Passes, LeadsOut}
 use Rattle.lemmas.proofs.Chains.{reaches-onward, reaches-back}
 
 -- a step leads back

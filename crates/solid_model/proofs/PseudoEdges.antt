@@ -20,7 +20,7 @@ use Rattle.std.specs.List.{list_any, flat_map}
 use Rattle.solid_model.specs.Segments.{segment_at}
 use Rattle.solid_model.specs.declared.segment.Style.TheVariants.{Blank, Dashed, Solid}
 use Rattle.solid_model.specs.Panels.{GridParts, IsGridOf, styles_along, starts_of, coordinates_of}
-use Rattle.solid_model.specs.Rooms.{same_axis}
+use Rattle.solid_model.specs.WalledBoxes.{same_axis}
 use Rattle.solid_model.specs.Wire.{is_blank_style, is_drawn_view, is_drawn_from, is_end_of_drawn, is_on_drawn, is_pseudo_vertex, is_drawn_or_point, is_pseudo_edge}
 use Rattle.solid_model.specs.GridBox.{grid_sizes, axis_along, axis_across, IsGridFullness}
 use Rattle.solid_model.proofs.BoxCells.{below-bounds}

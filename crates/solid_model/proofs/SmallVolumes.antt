@@ -9,7 +9,7 @@ use Rattle.solid_model.specs.Grid.{Coordinates, gaps_along}
 use Rattle.lemmas.specs.Lists.{Member}
 use Rattle.solid_model.specs.Panels.{GridParts, IsGrid, coordinates_of}
 use Rattle.solid_model.specs.PerAxis.{numbers_of, cell_of}
-use Rattle.solid_model.specs.Rooms.{Sizes, is_within, box_place, box_count}
+use Rattle.solid_model.specs.WalledBoxes.{Sizes, is_within, box_place, box_count}
 use Rattle.solid_model.specs.Volumes.{gap_width, grid_cell_volume, grid_cell_at, volume_below}
 use Rattle.solid_model.specs.GridBox.{grid_cell_of}
 use Rattle.solid_model.proofs.BoxPlaces.{cell_of_place, cell_of_place-own}

@@ -1,7 +1,7 @@
--- It can't be that the rooms of a box have no numbering.
+-- It can't be that the enclosed components of a box have no numbering.
 use Rattle.std.proofs.Common.{◌≡◌, ◌↔◌, ℕ, ◌<◌, List, length, get_or, Option, None, sym, subst, subst₂, ◌∙◌, ap}
 use Rattle.lemmas.specs.Chains.{Reaches}
-use Rattle.solid_model.specs.Rooms.{Sizes, box_place, box_count, Walls, Passes, LeadsOut, number_at, AreRooms}
+use Rattle.solid_model.specs.WalledBoxes.{Sizes, box_place, box_count, Walls, Passes, LeadsOut, number_at, AreEnclosed}
 use Rattle.solid_model.proofs.BoxPlaces.{cell_there, cell_of_place, cell_of_place-within, cell_of_place-there, cell_of_place-own, before_earlier}
 use Rattle.lemmas.proofs.Chains.{reaches-itself, reaches-onward}
 use Rattle.lemmas.proofs.Decisions.{IsDecided, never_undecided, never_none}
@@ -16,10 +16,10 @@ module _ (sizes : Sizes) (wall : Walls) where
   abbrev Same : ℕ → ℕ → Type 0
   Same p q = Reaches (Passes wall) (cell_of_place sizes p) (cell_of_place sizes q)
 
-  -- the numbers of the places are those of the rooms
-  rooms_of_numbered : (numbers : List (Option ℕ)) (count : ℕ) → AreNumbered Out Same (box_count sizes) numbers count
-      → AreRooms sizes wall numbers count
-  rooms_of_numbered numbers count numbered = record {
+  -- the numbers of the places are those of the enclosed components
+  enclosed_of_numbered : (numbers : List (Option ℕ)) (count : ℕ) → AreNumbered Out Same (box_count sizes) numbers count
+      → AreEnclosed sizes wall numbers count
+  enclosed_of_numbered numbers count numbered = record {
     listed = numbered.listed;
     outside = λ n n_in. subst (λ c. (number_at sizes numbers n ≡ None) ↔ LeadsOut sizes wall c) (cell_of_place-own sizes n n_in)
         (numbered.outside (box_place sizes n) (cell_there sizes n n_in));
@@ -53,8 +53,8 @@ module _ (sizes : Sizes) (wall : Walls) where
   never_undecided_at p none = never_undecided (Out p) (λ out.
       never_none (λ q. IsDecided (Same p q)) (λ q. never_undecided (Same p q)) (box_count sizes) (λ same. none (out, same)))
 
-  -- It can't be that the rooms of a box have no numbering.
-  pub some_numbering : ((numbers : List (Option ℕ)) (count : ℕ) → AreRooms sizes wall numbers count → ⊥) → ⊥
+  -- It can't be that the enclosed components of a box have no numbering.
+  pub some_numbering : ((numbers : List (Option ℕ)) (count : ℕ) → AreEnclosed sizes wall numbers count → ⊥) → ⊥
   some_numbering none = never_none IsDecidedAt never_undecided_at (box_count sizes) (λ decided.
       let (numbers, count, numbered) = numbers_of_decided Out Same
       (λ p. reaches-itself (Passes wall) (cell_of_place sizes p))
@@ -62,4 +62,4 @@ module _ (sizes : Sizes) (wall : Walls) where
       (λ p q r. reaches-onward (Passes wall) (cell_of_place sizes p) (cell_of_place sizes q) (cell_of_place sizes r))
       (λ p q. passages-leads_out sizes wall (cell_of_place sizes p) (cell_of_place sizes q))
       (box_count sizes) (record { out = λ p l. (decided p l).0; same = λ p q l m. (decided p l).1 q m }) in
-      none numbers count (rooms_of_numbered numbers count numbered))
+      none numbers count (enclosed_of_numbered numbers count numbered))

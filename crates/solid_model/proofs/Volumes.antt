@@ -10,7 +10,7 @@ use Rattle.solid_model.specs.Grid.{Coordinates, GridCell, is_in_gap, LiesInGridC
 use Rattle.lemmas.specs.Lists.{Member, Ascends}
 use Rattle.lemmas.proofs.Lists.{appended, each-from, member-appended, member-from_appended, ascends-appended}
 use Rattle.solid_model.specs.Orders.{ComesBefore, IsInStatedForm}
-use Rattle.solid_model.specs.Rooms.{place_of_number, box_place}
+use Rattle.solid_model.specs.WalledBoxes.{place_of_number, box_place}
 use Rattle.solid_model.specs.Volumes.{gap_width, grid_cell_volume, grid_cell_at, volume_below, volume_of}
 use Rattle.solid_model.proofs.BoxPlaces.{place_there, within_box, HasNumbersBelow, numbers_below, cell_of_place, cell_of_place-within, cell_of_place-there, cell_of_place-own}
 use Rattle.solid_model.proofs.CellOrder.{not_before_itself}

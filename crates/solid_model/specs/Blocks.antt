@@ -7,7 +7,7 @@ use Rattle.lemmas.specs.Chains.{Reaches}
 use Rattle.solid_model.specs.Limits.{most_blocks}
 use Rattle.solid_model.specs.Panels.{GridParts}
 use Rattle.solid_model.specs.PerAxis.{numbers_of}
-use Rattle.solid_model.specs.Rooms.{is_within, Passes, LeadsOut, number_at, AreRooms}
+use Rattle.solid_model.specs.WalledBoxes.{is_within, Passes, LeadsOut, number_at, AreEnclosed}
 use Rattle.solid_model.specs.VirtualFaces.{IsVirtual}
 use Rattle.solid_model.specs.GridBox.{grid_sizes}
 
@@ -22,7 +22,7 @@ IsOutside g = LeadsOut (grid_sizes g) (IsVirtual g)
 -- The blocks of a grid, so many: each grid cell has the number of its block, or none where it is outside. They are numbered
 -- from 0 by their first cells.
 abbrev pub AreBlocksOf : GridParts → List (Option ℕ) → ℕ → Type 0
-AreBlocksOf g = AreRooms (grid_sizes g) (IsVirtual g)
+AreBlocksOf g = AreEnclosed (grid_sizes g) (IsVirtual g)
 
 -- there are more of them than may be, and this is their number
 abbrev pub HasTooManyBlocks : GridParts → ℕ → Type 0

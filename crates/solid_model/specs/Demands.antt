@@ -18,7 +18,7 @@ use Rattle.lemmas.specs.Truth.{agree}
 use Rattle.solid_model.specs.Frames.{frame_of, along, across, at_places}
 use Rattle.lemmas.specs.Lists.{Member}
 use Rattle.solid_model.specs.Panels.{GridParts}
-use Rattle.solid_model.specs.Rooms.{Sizes}
+use Rattle.solid_model.specs.WalledBoxes.{Sizes}
 use Rattle.solid_model.specs.Wire.{is_drawn_view}
 use Rattle.solid_model.specs.GridBox.{grid_sizes, axis_along, axis_across, grid_style}
 

@@ -13,7 +13,7 @@ use Rattle.solid_model.specs.Frames.{frame_of, along, across}
 use Rattle.solid_model.specs.Grid.{GridCell, LiesInGridCell, gaps_along}
 use Rattle.solid_model.specs.Panels.{GridParts, coordinates_of, styles_along}
 use Rattle.solid_model.specs.PerView.{of_view}
-use Rattle.solid_model.specs.Rooms.{Sizes, is_within, place_of_number}
+use Rattle.solid_model.specs.WalledBoxes.{Sizes, is_within, place_of_number}
 
 -- how many grid cells stand in a row along each axis
 abbrev pub grid_sizes : GridParts → Sizes

@@ -3,7 +3,7 @@ use Rattle.std.specs.Prelude.{◌≡◌, suc, IsTrue, if◌then◌else◌, lengt
 use Rattle.solid_model.specs.declared.cell.Axis.{Axis}
 use Rattle.solid_model.specs.Panels.{GridParts}
 use Rattle.solid_model.specs.Marks.{AxisMarks, marks_along, AreMarksOf}
-use Rattle.solid_model.specs.Rooms.{Sizes, same_axis, face_sizes, box_count, IsEarlier}
+use Rattle.solid_model.specs.WalledBoxes.{Sizes, same_axis, face_sizes, box_count, IsEarlier}
 use Rattle.solid_model.specs.GridBox.{grid_sizes}
 use Rattle.solid_model.specs.Wire.{is_pseudo_edge}
 use Rattle.solid_model.specs.VirtualFaces.{IsVirtual}

@@ -22,7 +22,7 @@ pub mod SmallSheet
 pub mod Grid
 pub mod Panels
 pub mod Choices
-pub mod Rooms
+pub mod WalledBoxes
 pub mod PerAxis
 pub mod GridPlaces
 pub mod Marks

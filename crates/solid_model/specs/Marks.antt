@@ -5,7 +5,7 @@ use Rattle.solid_model.specs.declared.cell.Axis.TheVariants.{X, Y, Z}
 use Rattle.solid_model.specs.declared.cell.Cell.{Cell}
 use Rattle.solid_model.specs.declared.per_axis.PerAxis.{PerAxis}
 use Rattle.solid_model.specs.PerAxis.{numbers_of, AreFew}
-use Rattle.solid_model.specs.Rooms.{Sizes, is_within, box_place, box_count}
+use Rattle.solid_model.specs.WalledBoxes.{Sizes, is_within, box_place, box_count}
 
 -- a truth value for each cell of a box, z slowest and x fastest
 pub record BoxMarks : Type 0 where

@@ -4,7 +4,7 @@ use Rattle.solid_model.specs.declared.cell.Axis.{Axis}
 use Rattle.solid_model.specs.declared.cell.Cell.{Cell}
 use Rattle.solid_model.specs.Edges.{second_axis, third_axis}
 use Rattle.solid_model.specs.Panels.{GridParts}
-use Rattle.solid_model.specs.Rooms.{same_axis, face_sizes, is_within, Walls, LeadsOut}
+use Rattle.solid_model.specs.WalledBoxes.{same_axis, face_sizes, is_within, Walls, LeadsOut}
 use Rattle.solid_model.specs.Wire.{is_pseudo_edge}
 use Rattle.solid_model.specs.GridBox.{grid_sizes}
 

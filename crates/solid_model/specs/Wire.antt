@@ -11,7 +11,7 @@ use Rattle.solid_model.specs.Cells.{coordinate, cell_before, cell_after}
 use Rattle.solid_model.specs.Panels.{GridParts, PanelStyles, styles_along}
 use Rattle.solid_model.specs.PerView.{of_view}
 use Rattle.std.specs.List.{list_any}
-use Rattle.solid_model.specs.Rooms.{same_axis}
+use Rattle.solid_model.specs.WalledBoxes.{same_axis}
 use Rattle.solid_model.specs.GridBox.{axis_along, axis_across, grid_style}
 
 -- ---- grid segments

@@ -32,11 +32,12 @@ impl Model for Blocks {
 }
 
 impl Blocks {
-    ghost use Rattle.std.specs.Prelude.{◌≡◌, length};
+    ghost use Rattle.std.specs.Prelude.{◌≡◌, ◌≤◌, length};
     ghost use Rattle.solid_model.specs.Blocks.{block_at};
+    ghost use Rattle.solid_model.specs.Kept.{AreNumbers};
     ghost use Rattle.lemmas.specs.Lists.{Each};
     ghost use Rattle.solid_model.specs.PerAxis.{numbers_of, cell_of};
-    ghost use Rattle.solid_model.specs.Rooms.{box_count, IsEarlier};
+    ghost use Rattle.solid_model.specs.WalledBoxes.{box_count, IsEarlier};
     ghost use Rattle.solid_model.specs.GridBox.{grid_sizes};
 
     /// The blocks of a grid: so many, one number or none for each grid cell.
@@ -52,6 +53,14 @@ impl Blocks {
             of,
             count,
         }
+    }
+
+    /// Each cell has a number or none, and the numbers are below the count, which has 16 bits.
+    pub fn known(&self)
+        ensures kept { AreNumbers self.now }
+        ensures few { self.now.count ≤ 65535 }
+    {
+        let _count = self.count;
     }
 
     /// How many blocks there are.

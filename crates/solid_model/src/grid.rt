@@ -99,6 +99,15 @@ impl Grid {
         }
     }
 
+    /// It is the grid of a drawing, and no row of its cells is longer than a word.
+    pub fn known(&self)
+        ensures kept { IsGrid self.now }
+        ensures few { (a : Axis) → grid_sizes self.now a ≤ 63 }
+    {
+        let _ = &self.xs;
+        let _ = self.sizes();
+    }
+
     /// The coordinates along the x axis.
     pub fn xs(&self) -> &[i64]
         ensures { result.now ≡ self.now.xs }

@@ -1,12 +1,12 @@
 //! The laws over the definitions. Each is the contract of a function that does nothing.
 
 mod blocks;
+mod components;
 mod drawings;
 mod grid;
 mod matching;
 mod orders;
 mod places;
-mod rooms;
 mod runs;
 mod sheets;
 mod stretches;
@@ -16,6 +16,7 @@ mod volumes;
 pub use blocks::{
     all_matching_choices_are_all_matching_solids, matching_solids_are_constant_on_blocks,
 };
+pub use components::one_numbering_of_components;
 pub use drawings::{
     column_rule, each_segment_has_one_style, fillings_round_an_edge,
     order_and_repeats_do_not_matter, quartered_cube, small_drawings,
@@ -32,7 +33,6 @@ pub use orders::{
 pub use places::{
     matching_solids_begin_at_zero, solids_begin_where_their_views_do, solids_lie_within_their_views,
 };
-pub use rooms::one_numbering_of_rooms;
 pub use runs::{one_list_of_runs, runs_are_maximal_stretches, small_runs};
 pub use sheets::{
     lines_have_a_drawing, moved_drawings_begin_at_zero, small_sheet, views_begin_at_the_least_lines,

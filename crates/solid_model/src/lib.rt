@@ -1,5 +1,8 @@
 //! The plain types of the project, the definitions of solids and their drawings, and the laws over
 //! them.
+//!
+//! A proof sees what a value's type keeps only where a call on the value says it. A type's `known`
+//! says it and does nothing: who needs no more of the value calls it for the proof alone.
 #![tactic(auto)]
 
 mod bits;
@@ -12,7 +15,6 @@ mod drawing;
 mod ended;
 mod expansion;
 mod face;
-mod face_map;
 mod fault;
 mod frame;
 mod grid;
@@ -32,7 +34,6 @@ mod runs;
 mod segment;
 mod sorted;
 mod volume;
-mod wire;
 
 pub use blocks::Blocks;
 pub use cell::{Axis, Cell};
@@ -43,7 +44,6 @@ pub use drawing::{Drawing, ViewLines};
 pub use ended::{EndKind, Ended};
 pub use expansion::Expansion;
 pub use face::{Face, Loop, Out};
-pub use face_map::FaceMap;
 pub use fault::{Fault, Refused};
 pub use frame::{Direction, Frame, View};
 pub use grid::{Grid, same_coordinates};
@@ -54,16 +54,16 @@ pub use laws::{
     lines_have_a_drawing, matching_is_seen_on_the_grid, matching_solids_are_constant_on_blocks,
     matching_solids_begin_at_zero, matching_solids_lie_in_the_grid, maximal_stretches,
     moved_drawings_begin_at_zero, one_drawing_of_a_grid, one_list_of_grid_coordinates,
-    one_list_of_runs, one_numbering_of_rooms, one_stated_form, order_and_repeats_do_not_matter,
-    quartered_cube, runs_are_maximal_stretches, small_drawings, small_orders, small_runs,
-    small_sheet, small_tree, solids_are_ordered, solids_begin_where_their_views_do,
-    solids_lie_within_their_views, the_tree_is_complete, views_are_seen_from_their_sides,
-    views_begin_at_the_least_lines, volumes_count_unit_cells,
+    one_list_of_runs, one_numbering_of_components, one_stated_form,
+    order_and_repeats_do_not_matter, quartered_cube, runs_are_maximal_stretches, small_drawings,
+    small_orders, small_runs, small_sheet, small_tree, solids_are_ordered,
+    solids_begin_where_their_views_do, solids_lie_within_their_views, the_tree_is_complete,
+    views_are_seen_from_their_sides, views_begin_at_the_least_lines, volumes_count_unit_cells,
 };
 pub use limits::Limits;
 pub use line::SheetLine;
 pub use line_id::LineId;
-pub use marks::{CellTest, Marks, MarksByAxis};
+pub use marks::{CellTest, FaceMap, Marks, MarksByAxis, Wire};
 pub use memory::Memory;
 pub use panels::{Panel, Panels};
 pub use per_axis::PerAxis;
@@ -74,4 +74,3 @@ pub use runs::{Run, Runs};
 pub use segment::{Segment, Style};
 pub use sorted::sort_choices;
 pub use volume::{cell_volume, chosen_volume};
-pub use wire::Wire;

@@ -1,7 +1,8 @@
 //! Marks on the cells of a box.
 //!
-//! They keep the sizes of their box, so that a wire frame and a map of faces are made of them
-//! without the grid.
+//! They keep the sizes of their box, so that those for each axis, which are a grid's pseudo wire
+//! frame or its virtual faces, need no grid. `has` takes the axis and a cell's three numbers as one
+//! value and asks for nothing: beyond the box there is no mark.
 
 use crate::cell::Axis;
 use crate::memory::Memory;
@@ -31,7 +32,7 @@ pub trait CellTest {
     ghost use Rattle.std.specs.Prelude.{◌≡◌, Bool, IsTrue};
     ghost use Rattle.solid_model.specs.declared.cell.Cell.{Cell};
     ghost use Rattle.solid_model.specs.PerAxis.{numbers_of, cell_of, AreFew};
-    ghost use Rattle.solid_model.specs.Rooms.{Sizes, is_within};
+    ghost use Rattle.solid_model.specs.WalledBoxes.{Sizes, is_within};
 
     /// The sizes of the box.
     ghost sizes: { Self → Sizes };
@@ -54,7 +55,7 @@ impl Marks {
     ghost use Rattle.std.specs.Prelude.{◌≡◌, length, IsTrue, IfOk};
     ghost use Rattle.solid_model.specs.Marks.{BoxMarks, IsFull, is_marked, AreMarksOf};
     ghost use Rattle.solid_model.specs.PerAxis.{numbers_of, cell_of, AreFew};
-    ghost use Rattle.solid_model.specs.Rooms.{is_within, box_count};
+    ghost use Rattle.solid_model.specs.WalledBoxes.{is_within, box_count};
 
     /// The marks with these values, one for each cell of a box of these sizes.
     pub fn new(sizes: PerAxis, values: Vec<bool>) -> Marks
@@ -62,6 +63,13 @@ impl Marks {
         ensures { result ≡ record { sizes = sizes; values = values.items } }
     {
         Marks { sizes, values }
+    }
+
+    /// There is a value for each cell of the box.
+    pub fn known(&self)
+        ensures { IsFull self.now }
+    {
+        let _ = &self.sizes;
     }
 
     /// Marks on the cells of which the answer is yes.
@@ -103,13 +111,23 @@ impl Marks {
     }
 }
 
-/// Marks for each axis, each on the cells of a box of its own.
+/// Marks for each axis, each on the cells of a box of its own: along it on the edges of a grid, or
+/// across it on the faces. Along its own axis an edge has the number of the grid cell that it is a
+/// side of, across it the numbers of the coordinates at which it stands; with a face it is the other
+/// way round.
 #[derive(Debug, Drop)]
 pub struct MarksByAxis {
     pub x: Marks,
     pub y: Marks,
     pub z: Marks,
 }
+
+/// The pseudo wire frame of a grid (Wesley and Markowsky 1981): its edges that are pseudo edges.
+pub type Wire = MarksByAxis;
+
+/// Which faces of a grid are virtual: those that the pseudo wire frame closes off and that may be
+/// faces of a solid.
+pub type FaceMap = MarksByAxis;
 
 impl Model for MarksByAxis {
     ghost use Rattle.solid_model.specs.Marks.{AxisMarks};
@@ -121,7 +139,8 @@ impl Model for MarksByAxis {
 
 impl MarksByAxis {
     ghost use Rattle.std.specs.Prelude.{◌≡◌};
-    ghost use Rattle.solid_model.specs.Marks.{marks_along};
+    ghost use Rattle.solid_model.specs.Marks.{is_marked, marks_along};
+    ghost use Rattle.solid_model.specs.PerAxis.{cell_of};
 
     /// Those for an axis.
     pub fn along(&self, axis: Axis) -> &Marks
@@ -132,5 +151,12 @@ impl MarksByAxis {
             Axis::Y => &self.y,
             Axis::Z => &self.z,
         }
+    }
+
+    /// A cell of the box for an axis has a mark; one that isn't of the box has none.
+    pub fn has(&self, axis: Axis, cell: PerAxis) -> bool
+        ensures { result ≡ is_marked (marks_along axis self.now) (cell_of cell) }
+    {
+        self.along(axis).has(cell)
     }
 }

@@ -3,7 +3,7 @@
 ghost use Rattle.std.specs.Prelude.{◌≡◌, ◌↔◌, IsTrue};
 ghost use Rattle.solid_model.specs.Wire.{is_some_drawn};
 
-use crate::frame::View;
+use crate::per_view::PerView;
 use crate::segment::Style;
 use std::marker::Model;
 
@@ -77,35 +77,10 @@ impl Panel {
 }
 
 /// The styles of the grid segments of three views.
-#[derive(Debug, Drop)]
-pub struct Panels {
-    pub front: Panel,
-    pub top: Panel,
-    pub side: Panel,
-}
+pub type Panels = PerView<Panel>;
 
-impl Model for Panels {
-    ghost use Rattle.solid_model.specs.Panels.{PanelsStyles};
-
-    ghost Value = { PanelsStyles };
-
-    ghost view = { λ s. record { front = s.front; top = s.top; side = s.side } };
-}
-
-impl Panels {
+impl PerView<Panel> {
     ghost use Rattle.std.specs.Prelude.{◌≡◌, ◌↔◌, IsTrue};
-    ghost use Rattle.solid_model.specs.PerView.{of_view};
-
-    /// The styles of a view's segments.
-    pub fn view(&self, view: View) -> &Panel
-        ensures { result.now ≡ of_view view self.now }
-    {
-        match view {
-            View::Front => &self.front,
-            View::Top => &self.top,
-            View::Side => &self.side,
-        }
-    }
 
     /// Both have the same styles in each view.
     pub fn same(&self, other: &Panels) -> bool

@@ -3,7 +3,7 @@
 ghost use Rattle.std.specs.Prelude.{◌≡◌, ◌<◌, ◌≤◌, ◌+◌, None, IsTrue, IfSome};
 ghost use Rattle.solid_model.specs.Cells.{cell_before, cell_after};
 ghost use Rattle.solid_model.specs.PerAxis.{numbers_of, cell_of, numbered, gaps_of, AreFew};
-ghost use Rattle.solid_model.specs.Rooms.{face_sizes, is_within, box_count, box_place};
+ghost use Rattle.solid_model.specs.WalledBoxes.{face_sizes, is_within, box_count, box_place};
 ghost use Rattle.solid_model.specs.Kept.{edge_sizes};
 
 use crate::cell::Axis;

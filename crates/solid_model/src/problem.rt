@@ -30,10 +30,10 @@ impl Model for Problem {
 }
 
 impl Problem {
-    ghost use Rattle.std.specs.Prelude.{◌≡◌, ◌↔◌, IsTrue, IfOk};
+    ghost use Rattle.std.specs.Prelude.{◌≡◌, ◌↔◌, ◌≤◌, IsTrue, IfOk};
     ghost use Rattle.solid_model.specs.Blocks.{IsBlocksOf};
     ghost use Rattle.solid_model.specs.Choices.{cells_of_choice};
-    ghost use Rattle.solid_model.specs.Panels.{coordinates_of};
+    ghost use Rattle.solid_model.specs.Panels.{coordinates_of, IsGrid};
     ghost use Rattle.solid_model.specs.Volumes.{volume_of};
 
     /// The problem of a grid, of which these are the blocks.
@@ -42,6 +42,16 @@ impl Problem {
         ensures { result ≡ record { grid = grid; blocks = blocks } }
     {
         Problem { grid, blocks }
+    }
+
+    /// Its blocks are those of its grid, which is that of a drawing; their number has 16 bits.
+    pub fn known(&self)
+        ensures blocks { IsBlocksOf self.now.grid self.now.blocks }
+        ensures grid { IsGrid self.now.grid }
+        ensures few { self.now.blocks.count ≤ 65535 }
+    {
+        self.grid.known();
+        self.blocks.known();
     }
 
     /// Its grid.

@@ -7,7 +7,7 @@ ghost use Rattle.std.specs.Prelude.{◌≡◌, ◌≤◌, false, slice_index_or,
 ghost use Rattle.solid_model.specs.Choices.{cells_of_choice};
 ghost use Rattle.solid_model.specs.Panels.{coordinates_of};
 ghost use Rattle.solid_model.specs.PerAxis.{numbers_of, cell_of};
-ghost use Rattle.solid_model.specs.Rooms.{is_within};
+ghost use Rattle.solid_model.specs.WalledBoxes.{is_within};
 ghost use Rattle.solid_model.specs.Volumes.{grid_cell_volume, volume_of};
 ghost use Rattle.solid_model.specs.GridBox.{grid_sizes};
 

@@ -42,6 +42,13 @@ impl Edition {
         Ok(Edition { problem, solids })
     }
 
+    /// Its solids are solutions of its problem, none of them twice.
+    pub fn known(&self)
+        ensures { IsEdition self.now }
+    {
+        let _ = &self.solids;
+    }
+
     /// The problem.
     pub fn problem(&self) -> &Problem
         ensures { result.now ≡ self.now.problem }

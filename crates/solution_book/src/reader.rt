@@ -57,7 +57,7 @@ fn look<R: Wait>(rt: &R, lens: Lens) -> (Lens, Option<Arc<Edition>>)
 {
     let reading = entered(rt, lens);
     let edition = reading.get().edition();
-    let _solids = edition.solids();
+    edition.known();
     let shared = Arc::try_clone(edition).ok();
     (reading.leave(), shared)
 }
@@ -98,7 +98,7 @@ fn look_for_problem<R: Wait>(rt: &R, lens: Lens, problem: &Problem) -> (Lens, bo
 {
     let reading = entered(rt, lens);
     let edition = reading.get().edition();
-    let _solids = edition.solids();
+    edition.known();
     let same = edition.problem().same(problem);
     (reading.leave(), same)
 }

@@ -21,15 +21,15 @@ fn what_a_reader_gives_comes_to_a_sink(rt: HostRuntime) -> Result<(), Fail> {
 #[derive(Drop)]
 struct Choppy {
     taken: Vec<u8>,
-    room: usize,
+    capacity: usize,
     flushes: u8,
 }
 
 impl Write for Choppy {
     fn write(&mut self, piece: &[u8]) -> io::Result<usize> {
-        let count = piece.len().min(2).min(self.room);
+        let count = piece.len().min(2).min(self.capacity);
         self.taken.extend_from_slice(&piece[..count])?;
-        self.room -= count;
+        self.capacity -= count;
         Ok(count)
     }
 
@@ -44,10 +44,10 @@ impl Write for Choppy {
 
 impl Choppy {
     /// A writer with room for so many bytes, which can be flushed once.
-    fn with_room(alloc: Global, room: usize) -> Choppy {
+    fn with_capacity(alloc: Global, capacity: usize) -> Choppy {
         Choppy {
             taken: Vec::new(alloc),
-            room,
+            capacity,
             flushes: 1,
         }
     }
@@ -55,7 +55,7 @@ impl Choppy {
 
 #[test]
 fn each_piece_is_written_and_flushed(rt: HostRuntime) -> Result<(), Fail> {
-    let mut choppy = Choppy::with_room(rt.alloc(), 5);
+    let mut choppy = Choppy::with_capacity(rt.alloc(), 5);
     let mut sink = StdSink::new(&mut choppy);
     assert_eq!(rt; sink.write_all(b"abc"), Ok(()));
     assert_eq!(rt; sink.write_all(b"de"), Err(SinkError::Failed));
@@ -64,41 +64,41 @@ fn each_piece_is_written_and_flushed(rt: HostRuntime) -> Result<(), Fail> {
 }
 
 #[test]
-fn a_writer_without_room_fails(rt: HostRuntime) -> Result<(), Fail> {
-    let mut choppy = Choppy::with_room(rt.alloc(), 3);
+fn a_full_writer_fails(rt: HostRuntime) -> Result<(), Fail> {
+    let mut choppy = Choppy::with_capacity(rt.alloc(), 3);
     let mut sink = StdSink::new(&mut choppy);
     assert_eq!(rt; sink.write_all(b"abcd"), Err(SinkError::Failed));
     Ok(())
 }
 
-/// A reader that has nothing, and keeps how much room each call gave it.
+/// A reader that has nothing, and keeps how large a buffer each call gave it.
 #[derive(Drop)]
-struct Roomy {
-    rooms: Vec<usize>,
+struct Buffers {
+    buffers: Vec<usize>,
 }
 
-impl Read for Roomy {
-    fn read(&mut self, room: &mut [u8]) -> io::Result<usize> {
-        self.rooms.push(room.len())?;
+impl Read for Buffers {
+    fn read(&mut self, buffer: &mut [u8]) -> io::Result<usize> {
+        self.buffers.push(buffer.len())?;
         Ok(0)
     }
 }
 
-/// How much room `read_all` gives a reader that has nothing, where so many bytes are the most.
-fn rooms_for(alloc: Global, most: usize) -> Result<Vec<usize>, Fail> {
-    let mut roomy = Roomy {
-        rooms: Vec::new(alloc),
+/// How large a buffer `read_all` gives a reader that has nothing, where so many bytes are the most.
+fn buffers_for(alloc: Global, most: usize) -> Result<Vec<usize>, Fail> {
+    let mut seen = Buffers {
+        buffers: Vec::new(alloc),
     };
-    read_all(alloc, &mut StdSource::new(&mut roomy), most)?;
-    Ok(roomy.rooms)
+    read_all(alloc, &mut StdSource::new(&mut seen), most)?;
+    Ok(seen.buffers)
 }
 
 #[test]
-fn reads_have_room_for_so_many_bytes(rt: HostRuntime) -> Result<(), Fail> {
+fn reads_have_a_buffer_for_so_many_bytes(rt: HostRuntime) -> Result<(), Fail> {
     assert_eq!(rt;
-        rooms_for(rt.alloc(), 16_777_216)?.as_slice(),
+        buffers_for(rt.alloc(), 16_777_216)?.as_slice(),
         [65_536usize].as_slice()
     );
-    assert_eq!(rt; rooms_for(rt.alloc(), 4)?.as_slice(), [5usize].as_slice());
+    assert_eq!(rt; buffers_for(rt.alloc(), 4)?.as_slice(), [5usize].as_slice());
     Ok(())
 }

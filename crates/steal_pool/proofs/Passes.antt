@@ -167,11 +167,11 @@ settled_again u v items e s = subst (λ (y : Account). IsSettled y items) e s
 pub settled_moved : (now : OwnerState) (more : List Piece) → IsSettled (account now.parts now.put (now.taken ++ more)) [] → (h : Piece → ℕ) → total h now.put ≡ total h now.taken + total h more
 settled_moved now more s h = let e = s h in omega (arith, total-append h now.taken more)
 
-pub seen : (now : OwnerState) (d : Deque) (r : ℕ) (v : Account) (more : List Piece) → d ≡ now.deque → r ≡ now.room → v ≡ account now.parts now.put (now.taken ++ more)
-    → ◌≡◌ {A = OwnerState} (record { deque = d; room = r; parts = v.parts; put = v.put; taken = v.taken }) (record { deque = now.deque; room = now.room; parts = now.parts; put = now.put; taken = now.taken ++ more })
-seen now d r v more p q e = λ i. record { deque = p i; room = q i; parts = (e i).parts; put = (e i).put; taken = (e i).taken }
+pub seen : (now : OwnerState) (d : Deque) (r : ℕ) (v : Account) (more : List Piece) → d ≡ now.deque → r ≡ now.capacity → v ≡ account now.parts now.put (now.taken ++ more)
+    → ◌≡◌ {A = OwnerState} (record { deque = d; capacity = r; parts = v.parts; put = v.put; taken = v.taken }) (record { deque = now.deque; capacity = now.capacity; parts = now.parts; put = now.put; taken = now.taken ++ more })
+seen now d r v more p q e = λ i. record { deque = p i; capacity = q i; parts = (e i).parts; put = (e i).put; taken = (e i).taken }
 
--- there is room for one more
+-- one more fits
 pub has_room : (v : Account) (items : List Piece) (taken more : List Piece) → IsSettled v items → 0 < length items → v.taken ≡ taken ++ more → length more < length v.put
 has_room v items taken more s more_than_none e = let l = settled_length v items s in let q = ap length e in omega (arith, length-append taken more)
 

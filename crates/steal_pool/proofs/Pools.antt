@@ -8,45 +8,45 @@ use Rattle.steal_pool.specs.Seats.{Deque, OwnerState, ThiefState, SeatState, new
 use Rattle.steal_pool.proofs.SeatLists.{head_or, tail_of, map-snoc, none_left, without_last-snoc, absorbed_last-snoc}
 
 -- a seat of one deque more
-grown_seat : (room : ℕ) (x d : Deque) (others : List Deque) → new_seat room x (others ++ d ∷ []) ≡ grown d (new_seat room x others)
-grown_seat room x d others =
+grown_seat : (capacity : ℕ) (x d : Deque) (others : List Deque) → new_seat capacity x (others ++ d ∷ []) ≡ grown d (new_seat capacity x others)
+grown_seat capacity x d others =
     let less : 64 - length (others ++ d ∷ []) ≡ (64 - length others) - 1 = omega (arith, length-append others (d ∷ [])) in
     let more = map-snoc new_thief others d in
-    λ i. record { owner = record { deque = x; room = room; parts = less i; put = []; taken = [] }; thieves = more i }
+    λ i. record { owner = record { deque = x; capacity = capacity; parts = less i; put = []; taken = [] }; thieves = more i }
 
-grown_after : (room : ℕ) (before after : List Deque) (d : Deque)
-    → seats_after room before (after ++ d ∷ []) ≡ map (grown d) (seats_after room before after) ++ new_seat room d (before ++ after) ∷ []
-grown_after room before [] d = λ i. new_seat room d (before ++ []) ∷ []
-grown_after room before (x ∷ after) d =
-    let first = ap (new_seat room x) (sym (append_assoc before after (d ∷ []))) ∙ grown_seat room x d (before ++ after) in
-    let last = ap (new_seat room d) (append_assoc before (x ∷ []) after) in
-    let rest = grown_after room (before ++ x ∷ []) after d ∙ ap (λ s. map (grown d) (seats_after room (before ++ x ∷ []) after) ++ s ∷ []) last in
+grown_after : (capacity : ℕ) (before after : List Deque) (d : Deque)
+    → seats_after capacity before (after ++ d ∷ []) ≡ map (grown d) (seats_after capacity before after) ++ new_seat capacity d (before ++ after) ∷ []
+grown_after capacity before [] d = λ i. new_seat capacity d (before ++ []) ∷ []
+grown_after capacity before (x ∷ after) d =
+    let first = ap (new_seat capacity x) (sym (append_assoc before after (d ∷ []))) ∙ grown_seat capacity x d (before ++ after) in
+    let last = ap (new_seat capacity d) (append_assoc before (x ∷ []) after) in
+    let rest = grown_after capacity (before ++ x ∷ []) after d ∙ ap (λ s. map (grown d) (seats_after capacity (before ++ x ∷ []) after) ++ s ∷ []) last in
     λ i. first i ∷ rest i
 
-pub grown_pool : (room : ℕ) (deques : List Deque) (d : Deque) → new_seats room (deques ++ d ∷ []) ≡ map (grown d) (new_seats room deques) ++ new_seat room d deques ∷ []
-grown_pool room deques d = grown_after room [] deques d
+pub grown_pool : (capacity : ℕ) (deques : List Deque) (d : Deque) → new_seats capacity (deques ++ d ∷ []) ≡ map (grown d) (new_seats capacity deques) ++ new_seat capacity d deques ∷ []
+grown_pool capacity deques d = grown_after capacity [] deques d
 
-length-after : (room : ℕ) (before after : List Deque) → length (seats_after room before after) ≡ length after
-length-after room before [] = refl
-length-after room before (d ∷ after) = ap suc (length-after room (before ++ d ∷ []) after)
+length-after : (capacity : ℕ) (before after : List Deque) → length (seats_after capacity before after) ≡ length after
+length-after capacity before [] = refl
+length-after capacity before (d ∷ after) = ap suc (length-after capacity (before ++ d ∷ []) after)
 
-pub length-seats : (room : ℕ) (deques : List Deque) → length (new_seats room deques) ≡ length deques
-length-seats room deques = length-after room [] deques
+pub length-seats : (capacity : ℕ) (deques : List Deque) → length (new_seats capacity deques) ≡ length deques
+length-seats capacity deques = length-after capacity [] deques
 
-new_thieves-after : (room : ℕ) (before after : List Deque) → new_thieves (seats_after room before after) ≡ map new_thief after
-new_thieves-after room before [] = refl
-new_thieves-after room before (d ∷ after) = ap (λ ts. new_thief d ∷ ts) (new_thieves-after room (before ++ d ∷ []) after)
+new_thieves-after : (capacity : ℕ) (before after : List Deque) → new_thieves (seats_after capacity before after) ≡ map new_thief after
+new_thieves-after capacity before [] = refl
+new_thieves-after capacity before (d ∷ after) = ap (λ ts. new_thief d ∷ ts) (new_thieves-after capacity (before ++ d ∷ []) after)
 
-pub new_thieves-seats : (room : ℕ) (deques : List Deque) → new_thieves (new_seats room deques) ≡ map new_thief deques
-new_thieves-seats room deques = new_thieves-after room [] deques
+pub new_thieves-seats : (capacity : ℕ) (deques : List Deque) → new_thieves (new_seats capacity deques) ≡ map new_thief deques
+new_thieves-seats capacity deques = new_thieves-after capacity [] deques
 
-parts_after : (room n : ℕ) (before after : List Deque) → n ≡ length before + length after → n ≤ 64 → Each (λ (s : SeatState). s.owner.parts + n ≡ 65) (seats_after room before after)
-parts_after room n before [] e few = tt
-parts_after room n before (d ∷ after) e few =
-    (omega (arith, length-append before after), parts_after room n (before ++ d ∷ []) after (omega (arith, length-append before (d ∷ []))) few)
+parts_after : (capacity n : ℕ) (before after : List Deque) → n ≡ length before + length after → n ≤ 64 → Each (λ (s : SeatState). s.owner.parts + n ≡ 65) (seats_after capacity before after)
+parts_after capacity n before [] e few = tt
+parts_after capacity n before (d ∷ after) e few =
+    (omega (arith, length-append before after), parts_after capacity n (before ++ d ∷ []) after (omega (arith, length-append before (d ∷ []))) few)
 
-pub parts-seats : (room : ℕ) (deques : List Deque) → length deques ≤ 64 → Each (λ (s : SeatState). s.owner.parts + length deques ≡ 65) (new_seats room deques)
-parts-seats room deques few = parts_after room (length deques) [] deques (omega arith) few
+pub parts-seats : (capacity : ℕ) (deques : List Deque) → length deques ≤ 64 → Each (λ (s : SeatState). s.owner.parts + length deques ≡ 65) (new_seats capacity deques)
+parts-seats capacity deques few = parts_after capacity (length deques) [] deques (omega arith) few
 
 pub each-weaker : {A : Type 0} (P Q : A → Type 0) (xs : List A) → ((x : A) → P x → Q x) → Each P xs → Each Q xs
 each-weaker P Q [] f h = tt
@@ -97,7 +97,7 @@ shrunk_seat d s n t one some_part e =
     let o : ◌≡◌ {A = OwnerState} (as_opened s).owner (grown d n).owner = ap (λ (x : SeatState). x.owner) e in
     let parts : s.owner.parts + t.parts ≡ n.owner.parts = let p = ap (λ (x : OwnerState). x.parts) o in omega arith in
     let thieves = without_last-map s.thieves ∙ ap (λ (x : SeatState). without_last x.thieves) e ∙ without_last-snoc n.thieves (new_thief d) in
-    λ i. record { owner = record { deque = (o i).deque; room = (o i).room; parts = parts i; put = (o i).put; taken = (o i).taken }; thieves = thieves i }
+    λ i. record { owner = record { deque = (o i).deque; capacity = (o i).capacity; parts = parts i; put = (o i).put; taken = (o i).taken }; thieves = thieves i }
 
 pub opened-back : (d : Deque) (ss ns : List SeatState) (ts : List ThiefState) → map as_opened ss ≡ map (grown d) ns → map opened_thief ts ≡ new_thieves ns
     → Each (λ (s : SeatState). 0 < s.owner.parts) ns → map as_opened (parted_seats ss ts) ≡ ns
@@ -162,29 +162,29 @@ pub parted-put_by : (f : List Piece → ℕ) (ss : List SeatState) (ts : List Th
 parted-put_by f ss ts = sym (total-map f (λ (s : SeatState). s.owner.put) (parted_seats ss ts)) ∙ ap (total f) (parted-put ss ts) ∙ total-map f (λ (s : SeatState). s.owner.put) ss
 
 -- what is known of the last seat, and of the ones before it
-pub record IsLast (room : ℕ) (ss : List SeatState) (s : SeatState) : Type 0 where
+pub record IsLast (capacity : ℕ) (ss : List SeatState) (s : SeatState) : Type 0 where
   pub front : List Deque
   pub few : length front < 64
-  pub before : map as_opened ss ≡ map (grown s.owner.deque) (new_seats room front)
-  pub thieves : map opened_thief s.thieves ≡ new_thieves (new_seats room front)
+  pub before : map as_opened ss ≡ map (grown s.owner.deque) (new_seats capacity front)
+  pub thieves : map opened_thief s.thieves ≡ new_thieves (new_seats capacity front)
   pub parts : s.owner.parts + length ss ≡ 64
 
-pub last_seat : (room : ℕ) (deques : List Deque) (ss : List SeatState) (s : SeatState) → length deques ≤ 64 → map as_opened (ss ++ s ∷ []) ≡ new_seats room deques → IsLast room ss s
-last_seat room deques ss s few e =
-    let l : length ss + 1 ≡ length deques = (let q = ap length e in omega (arith, length-opened ss, length-opened (ss ++ s ∷ []), length-append ss (s ∷ []), length-seats room deques)) in
+pub last_seat : (capacity : ℕ) (deques : List Deque) (ss : List SeatState) (s : SeatState) → length deques ≤ 64 → map as_opened (ss ++ s ∷ []) ≡ new_seats capacity deques → IsLast capacity ss s
+last_seat capacity deques ss s few e =
+    let l : length ss + 1 ≡ length deques = (let q = ap length e in omega (arith, length-opened ss, length-opened (ss ++ s ∷ []), length-append ss (s ∷ []), length-seats capacity deques)) in
     let v = snoc-view deques (omega arith) in
     let front = v.0 in
     let d = v.1 in
-    let both = snoc-same (map as_opened ss) (map (grown d) (new_seats room front)) (as_opened s) (new_seat room d front)
-    (sym (map-snoc as_opened ss s) ∙ e ∙ ap (new_seats room) v.2 ∙ grown_pool room front d) in
+    let both = snoc-same (map as_opened ss) (map (grown d) (new_seats capacity front)) (as_opened s) (new_seat capacity d front)
+    (sym (map-snoc as_opened ss s) ∙ e ∙ ap (new_seats capacity) v.2 ∙ grown_pool capacity front d) in
     let same : d ≡ s.owner.deque = sym (ap (λ (x : SeatState). x.owner.deque) both.1) in
     let parts : s.owner.parts ≡ 64 - length front = ap (λ (x : SeatState). x.owner.parts) both.1 in
     let count = ap length v.2 in
     record {
       front = front;
       few = omega (arith, length-append front (d ∷ []));
-      before = both.0 ∙ ap (λ x. map (grown x) (new_seats room front)) same;
-      thieves = ap (λ (x : SeatState). x.thieves) both.1 ∙ sym (new_thieves-seats room front);
+      before = both.0 ∙ ap (λ x. map (grown x) (new_seats capacity front)) same;
+      thieves = ap (λ (x : SeatState). x.thieves) both.1 ∙ sym (new_thieves-seats capacity front);
       parts = omega (arith, length-append front (d ∷ []));
     }
   where
@@ -192,12 +192,12 @@ last_seat room deques ss s few e =
     length-opened [] = refl
     length-opened (s ∷ ss) = ap suc (length-opened ss)
 
-pub last_met : (room : ℕ) (ss : List SeatState) (s : SeatState) → IsLast room ss s → AreMet s.owner.deque ss s.thieves
-last_met room ss s is = met-from s.owner.deque ss (new_seats room is.front) s.thieves is.before is.thieves
+pub last_met : (capacity : ℕ) (ss : List SeatState) (s : SeatState) → IsLast capacity ss s → AreMet s.owner.deque ss s.thieves
+last_met capacity ss s is = met-from s.owner.deque ss (new_seats capacity is.front) s.thieves is.before is.thieves
 
-pub last_parted : (room : ℕ) (ss : List SeatState) (s : SeatState) (is : IsLast room ss s) → map as_opened (parted_seats ss s.thieves) ≡ new_seats room is.front
-last_parted room ss s is = opened-back s.owner.deque ss (new_seats room is.front) s.thieves is.before is.thieves
-    (each-weaker (λ (x : SeatState). x.owner.parts + length is.front ≡ 65) (λ (x : SeatState). 0 < x.owner.parts) (new_seats room is.front) (λ x p. let few = is.few in omega arith) (parts-seats room is.front (let few = is.few in omega arith)))
+pub last_parted : (capacity : ℕ) (ss : List SeatState) (s : SeatState) (is : IsLast capacity ss s) → map as_opened (parted_seats ss s.thieves) ≡ new_seats capacity is.front
+last_parted capacity ss s is = opened-back s.owner.deque ss (new_seats capacity is.front) s.thieves is.before is.thieves
+    (each-weaker (λ (x : SeatState). x.owner.parts + length is.front ≡ 65) (λ (x : SeatState). 0 < x.owner.parts) (new_seats capacity is.front) (λ x p. let few = is.few in omega arith) (parts-seats capacity is.front (let few = is.few in omega arith)))
 
 -- the sums, once the last seat has gone
 pub last_weights_out : (h : Piece → ℕ) (ss : List SeatState) (s : SeatState) (more left begun : List Piece) (put taken : ℕ) → AreMet s.owner.deque ss s.thieves
@@ -209,26 +209,26 @@ last_weights_out h ss s more left begun put taken met drained e =
     let p = parted-put_by (total h) ss s.thieves in
     omega (arith, total_push (taken_by h) ss s, total_push (put_by h) ss s, total-append h left more)
 
-pub added : (room n : ℕ) (deques : List Deque) (o : OwnerState) (d : Deque) (ss : List SeatState) (new : OwnerState) (thieves : List ThiefState)
-    → ss ≡ new_seats room deques → (o.room ≡ room) × (o.parts ≡ 64) × (o.put ≡ []) × (o.taken ≡ []) → n ≡ length deques
-    → ◌≡◌ {A = OwnerState} new (record { deque = o.deque; room = o.room; parts = o.parts - n; put = o.put; taken = o.taken })
+pub added : (capacity n : ℕ) (deques : List Deque) (o : OwnerState) (d : Deque) (ss : List SeatState) (new : OwnerState) (thieves : List ThiefState)
+    → ss ≡ new_seats capacity deques → (o.capacity ≡ capacity) × (o.parts ≡ 64) × (o.put ≡ []) × (o.taken ≡ []) → n ≡ length deques
+    → ◌≡◌ {A = OwnerState} new (record { deque = o.deque; capacity = o.capacity; parts = o.parts - n; put = o.put; taken = o.taken })
     → thieves ≡ new_thieves ss → d ≡ o.deque
-    → map (grown o.deque) ss ++ record { owner = new; thieves = thieves } ∷ [] ≡ new_seats room (deques ++ d ∷ [])
-added room n deques o d ss new thieves e begun count is known same =
+    → map (grown o.deque) ss ++ record { owner = new; thieves = thieves } ∷ [] ≡ new_seats capacity (deques ++ d ∷ [])
+added capacity n deques o d ss new thieves e begun count is known same =
     let parts : new.parts ≡ 64 - length deques = (let p = ap (λ (x : OwnerState). x.parts) is in let q = begun.1 in omega arith) in
-    let all = known ∙ ap new_thieves e ∙ new_thieves-seats room deques in
-    let last : ◌≡◌ {A = SeatState} (record { owner = new; thieves = thieves }) (new_seat room o.deque deques) =
-    λ i. record { owner = record { deque = (is i).deque; room = (ap (λ (x : OwnerState). x.room) is ∙ begun.0) i; parts = parts i; put = (ap (λ (x : OwnerState). x.put) is ∙ begun.2) i; taken = (ap (λ (x : OwnerState). x.taken) is ∙ begun.3) i }; thieves = all i } in
-    (λ i. map (grown o.deque) (e i) ++ last i ∷ []) ∙ sym (grown_pool room deques o.deque) ∙ ap (λ x. new_seats room (deques ++ x ∷ [])) (sym same)
+    let all = known ∙ ap new_thieves e ∙ new_thieves-seats capacity deques in
+    let last : ◌≡◌ {A = SeatState} (record { owner = new; thieves = thieves }) (new_seat capacity o.deque deques) =
+    λ i. record { owner = record { deque = (is i).deque; capacity = (ap (λ (x : OwnerState). x.capacity) is ∙ begun.0) i; parts = parts i; put = (ap (λ (x : OwnerState). x.put) is ∙ begun.2) i; taken = (ap (λ (x : OwnerState). x.taken) is ∙ begun.3) i }; thieves = all i } in
+    (λ i. map (grown o.deque) (e i) ++ last i ∷ []) ∙ sym (grown_pool capacity deques o.deque) ∙ ap (λ x. new_seats capacity (deques ++ x ∷ [])) (sym same)
 
 opened_thieves : (others : List Deque) → map opened_thief (map new_thief others) ≡ map new_thief others
 opened_thieves [] = refl
 opened_thieves (d ∷ ds) = ap (λ ts. new_thief d ∷ ts) (opened_thieves ds)
 
-opened_after : (room : ℕ) (before after : List Deque) → map as_opened (seats_after room before after) ≡ seats_after room before after
-opened_after room before [] = refl
-opened_after room before (d ∷ after) = let thieves = opened_thieves (before ++ after) in let rest = opened_after room (before ++ d ∷ []) after in
-    λ i. record { owner = (new_seat room d (before ++ after)).owner; thieves = thieves i } ∷ rest i
+opened_after : (capacity : ℕ) (before after : List Deque) → map as_opened (seats_after capacity before after) ≡ seats_after capacity before after
+opened_after capacity before [] = refl
+opened_after capacity before (d ∷ after) = let thieves = opened_thieves (before ++ after) in let rest = opened_after capacity (before ++ d ∷ []) after in
+    λ i. record { owner = (new_seat capacity d (before ++ after)).owner; thieves = thieves i } ∷ rest i
 
-pub opened_seats : (room : ℕ) (deques : List Deque) → map as_opened (new_seats room deques) ≡ new_seats room deques
-opened_seats room deques = opened_after room [] deques
+pub opened_seats : (capacity : ℕ) (deques : List Deque) → map as_opened (new_seats capacity deques) ≡ new_seats capacity deques
+opened_seats capacity deques = opened_after capacity [] deques

@@ -67,10 +67,10 @@ pub seats_end : (first rest : List SeatState) (left : List ThiefState) (now : Li
 seats_end first rest left now n e l m = none_left rest (let q = ap length e in omega (arith, length-append first rest))
 
 pub owner_next : (o now new : OwnerState) (first : List SeatState) (s : SeatState)
-    → ◌≡◌ {A = OwnerState} now (record { deque = o.deque; room = o.room; parts = o.parts - length first; put = o.put; taken = o.taken })
-    → ◌≡◌ {A = OwnerState} new (record { deque = now.deque; room = now.room; parts = now.parts - 1; put = now.put; taken = now.taken })
-    → ◌≡◌ {A = OwnerState} new (record { deque = o.deque; room = o.room; parts = o.parts - length (first ++ s ∷ []); put = o.put; taken = o.taken })
+    → ◌≡◌ {A = OwnerState} now (record { deque = o.deque; capacity = o.capacity; parts = o.parts - length first; put = o.put; taken = o.taken })
+    → ◌≡◌ {A = OwnerState} new (record { deque = now.deque; capacity = now.capacity; parts = now.parts - 1; put = now.put; taken = now.taken })
+    → ◌≡◌ {A = OwnerState} new (record { deque = o.deque; capacity = o.capacity; parts = o.parts - length (first ++ s ∷ []); put = o.put; taken = o.taken })
 owner_next o now new first s e f =
     let one_less : (o.parts - length first) - 1 ≡ o.parts - length (first ++ s ∷ []) = omega (arith, length-append first (s ∷ [])) in
-    f ∙ (λ i. record { deque = (e i).deque; room = (e i).room; parts = (e i).parts - 1; put = (e i).put; taken = (e i).taken })
-    ∙ (λ i. record { deque = o.deque; room = o.room; parts = one_less i; put = o.put; taken = o.taken })
+    f ∙ (λ i. record { deque = (e i).deque; capacity = (e i).capacity; parts = (e i).parts - 1; put = (e i).put; taken = (e i).taken })
+    ∙ (λ i. record { deque = o.deque; capacity = o.capacity; parts = one_less i; put = o.put; taken = o.taken })

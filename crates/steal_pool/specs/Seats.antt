@@ -12,7 +12,7 @@ Deque = (ℕ × ℕ) × Global
 -- the seat that owns a deque: how many first puts are sure, its parts, and what it put and took, in order
 pub record OwnerState : Type 0 where
   pub deque : Deque
-  pub room : ℕ
+  pub capacity : ℕ
   pub parts : ℕ
   pub put : List Piece
   pub taken : List Piece
@@ -40,24 +40,24 @@ new_thief d = record { deque = d; parts = 1; taken = [] }
 
 -- the seat that owns the deque d, and steals from each of the others
 abbrev pub new_seat : ℕ → Deque → List Deque → SeatState
-new_seat room d others = record {
-  owner = record { deque = d; room = room; parts = 64 - length others; put = []; taken = [] };
+new_seat capacity d others = record {
+  owner = record { deque = d; capacity = capacity; parts = 64 - length others; put = []; taken = [] };
   thieves = map new_thief others;
 }
 
 -- a seat for each deque of the second list, where the deques of the first come before them
 abbrev pub seats_after : ℕ → List Deque → List Deque → List SeatState
-seats_after room before [] = []
-seats_after room before (d ∷ after) = new_seat room d (before ++ after) ∷ seats_after room (before ++ d ∷ []) after
+seats_after capacity before [] = []
+seats_after capacity before (d ∷ after) = new_seat capacity d (before ++ after) ∷ seats_after capacity (before ++ d ∷ []) after
 
 -- seat k owns deque k, and steals from each other deque, in the order of the deques; nothing was put or taken
 abbrev pub new_seats : ℕ → List Deque → List SeatState
-new_seats room deques = seats_after room [] deques
+new_seats capacity deques = seats_after capacity [] deques
 
 -- which seat it is, whatever was put and taken: the seat as it was when the pool was opened
 
 abbrev pub opened_owner : OwnerState → OwnerState
-opened_owner s = record { deque = s.deque; room = s.room; parts = s.parts; put = []; taken = [] }
+opened_owner s = record { deque = s.deque; capacity = s.capacity; parts = s.parts; put = []; taken = [] }
 
 abbrev pub opened_thief : ThiefState → ThiefState
 opened_thief t = record { deque = t.deque; parts = t.parts; taken = [] }
@@ -86,7 +86,7 @@ times_taken piece seats = total (λ s. times_among piece s.owner.taken + total (
 -- the seat has one more that steals from it, and one at the newcomer's deque d
 abbrev pub grown : Deque → SeatState → SeatState
 grown d s = record {
-  owner = record { deque = s.owner.deque; room = s.owner.room; parts = s.owner.parts - 1; put = s.owner.put; taken = s.owner.taken };
+  owner = record { deque = s.owner.deque; capacity = s.owner.capacity; parts = s.owner.parts - 1; put = s.owner.put; taken = s.owner.taken };
   thieves = s.thieves ++ new_thief d ∷ [];
 }
 
@@ -98,7 +98,7 @@ new_thieves seats = map (λ s. new_thief s.owner.deque) seats
 
 -- an owner takes in one that stole from it
 abbrev pub absorbed : OwnerState → ThiefState → OwnerState
-absorbed o t = record { deque = o.deque; room = o.room; parts = o.parts + t.parts; put = o.put; taken = o.taken ++ t.taken }
+absorbed o t = record { deque = o.deque; capacity = o.capacity; parts = o.parts + t.parts; put = o.put; taken = o.taken ++ t.taken }
 
 abbrev pub absorbed_last : OwnerState → List ThiefState → OwnerState
 absorbed_last o [] = o

@@ -25,7 +25,7 @@ const MOST_WAITING: usize = 16_384;
 pub struct OwnerSeat {
     worker: Worker<Prefix, Global, Account, Balance>,
     /// How many first puts are sure.
-    room: usize,
+    capacity: usize,
     /// How many pieces were put.
     count: usize,
 }
@@ -39,7 +39,7 @@ impl Model for OwnerSeat {
 
     ghost view = { λ s. record {
       deque = worker_deque s.worker;
-      room = s.room;
+      capacity = s.capacity;
       parts = (worker_view s.worker).parts;
       put = (worker_view s.worker).put;
       taken = (worker_view s.worker).taken;
@@ -49,39 +49,39 @@ impl Model for OwnerSeat {
         × (0 < (worker_view s.worker).parts)
         × (s.count ≡ length (worker_view s.worker).put)
         × (worker_index s.worker ≤ s.count)
-        × (s.room ≤ worker_capacity s.worker)
+        × (s.capacity ≤ worker_capacity s.worker)
         × (worker_port s.worker ≡ 0) };
 }
 
 impl OwnerSeat {
-    /// The owner of a new deque, with memory for `room` pieces. An `Err` is out of memory.
-    pub(crate) fn open(alloc: Global, room: usize) -> Result<OwnerSeat, Memory>
+    /// The owner of a new deque, with memory for `capacity` pieces. An `Err` is out of memory.
+    pub(crate) fn open(alloc: Global, capacity: usize) -> Result<OwnerSeat, Memory>
         ensures { IfOk result
-            (λ s. (s.room ≡ room) × (s.parts ≡ 64) × (s.put ≡ []) × (s.taken ≡ [])) }
+            (λ s. (s.capacity ≡ capacity) × (s.parts ≡ 64) × (s.put ≡ []) × (s.taken ≡ [])) }
     {
-        let worker = Worker::fifo_as(alloc, room)?;
+        let worker = Worker::fifo_as(alloc, capacity)?;
         Ok(OwnerSeat {
             worker,
-            room,
+            capacity,
             count: 0,
         })
     }
 
     /// Puts a piece at the end of the deque. The piece comes back only where this seat has already
-    /// put as many as the pool's room; the deque is then unchanged. There it does so where 16,384
-    /// pieces wait, or the deque can't grow: no clause says that.
+    /// put as many as the pool's capacity; the deque is then unchanged. There it does so where
+    /// 16,384 pieces wait, or the deque can't grow: no clause says that.
     pub fn put(&mut self, piece: Prefix) -> Result<(), Prefix>
         ensures put { MatchResult result
             (λ _. self.new ≡ record self.old { put = self.old.put ++ piece ∷ [] })
             (λ back. (back ≡ piece) × (self.new ≡ self.old)
-            × (self.old.room ≤ length self.old.put)) }
+            × (self.old.capacity ≤ length self.old.put)) }
         ensures seat { opened_owner self.new ≡ opened_owner self.old }
     {
         if self.count == usize::MAX {
             return Err(piece);
         }
         let waiting = self.worker.len_as::<Counted>();
-        if self.count >= self.room && waiting >= MOST_WAITING {
+        if self.count >= self.capacity && waiting >= MOST_WAITING {
             return Err(piece);
         }
         match self.worker.push_as::<Puts>(piece) {
@@ -144,8 +144,8 @@ impl OwnerSeat {
     /// Takes what is left into reserved memory, once all that stole from this deque have come back.
     pub(crate) fn drain(&mut self, left: &mut Vec<Prefix>)
         requires whole { self.old.parts ≡ 64 }
-        requires room { vec_len left.old + length self.old.put ≤ vec_capacity left.old }
-        ensures room { vec_capacity left.new ≡ vec_capacity left.old }
+        requires capacity { vec_len left.old + length self.old.put ≤ vec_capacity left.old }
+        ensures capacity { vec_capacity left.new ≡ vec_capacity left.old }
         ensures left { (more : _) × (left.new.items ≡ left.old.items ++ more)
             × (self.new ≡ record self.old { taken = self.old.taken ++ more })
             × ((h : Piece → ℕ) → total h self.old.put ≡ total h self.old.taken + total h more) }

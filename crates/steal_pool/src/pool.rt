@@ -1,7 +1,7 @@
 //! The pool: how it is opened and closed.
 //!
 //! A pool keeps a handle of each deque, by which its seats are told from another pool's. `Memory`
-//! of `open` stands also for a room above 2^39, for which no deque is made. It grows by one
+//! of `open` stands also for a capacity above 2^39, for which no deque is made. It grows by one
 //! worker's seat at a time, which meets all earlier ones, and is closed from the last one on.
 
 ghost use Rattle.std.specs.Prelude.{◌≡◌, ◌<◌, ◌≤◌, ◌+◌, ◌++◌, List, ℕ, length, map, vec_len, vec_capacity, IfOk, OnOk, MatchResult};
@@ -23,7 +23,7 @@ use std::marker::Model;
 /// of its seats, as they were when it was opened.
 #[derive(Drop)]
 pub struct Pool {
-    room: usize,
+    capacity: usize,
     /// A handle of each deque.
     stealers: Vec<Stealer<Prefix, Global, Account, Balance>>,
 }
@@ -35,7 +35,7 @@ impl Model for Pool {
 
     ghost Value = { List SeatState };
 
-    ghost view = { λ s. new_seats s.room (map stealer_deque s.stealers.items) };
+    ghost view = { λ s. new_seats s.capacity (map stealer_deque s.stealers.items) };
 
     ghost invariant = { λ s. length s.stealers.items ≤ 64 };
 }
@@ -49,18 +49,18 @@ pub struct Remains {
 /// Adds a deque and its worker's seat. An `Err` is out of memory.
 fn add(
     alloc: Global,
-    room: usize,
+    capacity: usize,
     seats: &mut Vec<WorkerSeat>,
     stealers: &mut Vec<Stealer<Prefix, Global, Account, Balance>>,
 ) -> Result<(), Memory>
     requires seats { map state_of seats.old.items
-        ≡ new_seats room (map stealer_deque stealers.old.items) }
+        ≡ new_seats capacity (map stealer_deque stealers.old.items) }
     requires few { length stealers.old.items < 64 }
     ensures seats { OnOk result
-        (map state_of seats.new.items ≡ new_seats room (map stealer_deque stealers.new.items)) }
+        (map state_of seats.new.items ≡ new_seats capacity (map stealer_deque stealers.new.items)) }
     ensures one_more { OnOk result (length stealers.new.items ≡ length stealers.old.items + 1) }
 {
-    let mut owner = OwnerSeat::open(alloc, room)?;
+    let mut owner = OwnerSeat::open(alloc, capacity)?;
     let stealer = owner.stealer()?;
     let thieves = meet_all(alloc, seats.as_mut_slice(), &mut owner)?;
     stealers.push(stealer)?;
@@ -72,7 +72,7 @@ fn add(
 fn take_last(seats: &mut [WorkerSeat], last: WorkerSeat, left: &mut Vec<Prefix>)
     requires met { AreMet last.owner.deque (map state_of seats.old) last.thieves.items }
     requires parts { last.owner.parts + length seats.old ≡ 64 }
-    requires room { vec_len left.old + length last.owner.put ≤ vec_capacity left.old }
+    requires capacity { vec_len left.old + length last.owner.put ≤ vec_capacity left.old }
     ensures seats { map state_of seats.new
         ≡ parted_seats (map state_of seats.old) last.thieves.items }
     ensures capacity { vec_capacity left.new ≡ vec_capacity left.old }
@@ -87,10 +87,10 @@ fn take_last(seats: &mut [WorkerSeat], last: WorkerSeat, left: &mut Vec<Prefix>)
 
 /// Takes back all seats, and what is left in their deques, into reserved memory.
 fn take_all(seats: Vec<WorkerSeat>, left: &mut Vec<Prefix>)
-    requires seats { (room : ℕ) × (deques : List Deque) × (length deques ≤ 64)
-        × (map as_opened (map state_of seats.items) ≡ new_seats room deques) }
-    requires room { vec_len left.old + total (λ s. length s.owner.put) (map state_of seats.items)
-        ≤ vec_capacity left.old }
+    requires seats { (capacity : ℕ) × (deques : List Deque) × (length deques ≤ 64)
+        × (map as_opened (map state_of seats.items) ≡ new_seats capacity deques) }
+    requires capacity { vec_len left.old
+        + total (λ s. length s.owner.put) (map state_of seats.items) ≤ vec_capacity left.old }
     ensures { (h : Piece → ℕ) → total (put_by h) (map state_of seats.items) + total h left.old.items
         ≡ total (taken_by h) (map state_of seats.items) + total h left.new.items }
 {
@@ -101,20 +101,24 @@ fn take_all(seats: Vec<WorkerSeat>, left: &mut Vec<Prefix>)
 }
 
 impl Pool {
-    /// Opens a pool of so many deques, each sure of `room` puts, with the seats of its workers; the
-    /// one at place k, from 0, owns deque k. An `Err` is out of memory.
-    pub fn open(alloc: Global, workers: u32, room: usize) -> Result<(Pool, Vec<WorkerSeat>), Memory>
+    /// Opens a pool of so many deques, each sure of `capacity` puts, with the seats of its workers;
+    /// the one at place k, from 0, owns deque k. An `Err` is out of memory.
+    pub fn open(
+        alloc: Global,
+        workers: u32,
+        capacity: usize,
+    ) -> Result<(Pool, Vec<WorkerSeat>), Memory>
         requires { (0 < workers) × (workers ≤ 64) }
         ensures new { IfOk result (λ r. (deques : List Deque) × (length deques ≡ workers)
-            × (map state_of r.1.items ≡ new_seats room deques)) }
+            × (map state_of r.1.items ≡ new_seats capacity deques)) }
         ensures seats { IfOk result (λ r. map seat_of r.1.items ≡ r.0) }
     {
         let mut seats = Vec::new(alloc);
         let mut stealers = Vec::new(alloc);
         for _ in 0..workers {
-            add(alloc, room, &mut seats, &mut stealers)?;
+            add(alloc, capacity, &mut seats, &mut stealers)?;
         }
-        Ok((Pool { room, stealers }, seats))
+        Ok((Pool { capacity, stealers }, seats))
     }
 
     /// Closes a pool, given all its seats in their order. Over all seats, what was put is what was

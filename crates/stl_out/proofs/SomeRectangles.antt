@@ -7,7 +7,7 @@ use Rattle.solid_model.specs.declared.cell.Cell.{Cell}
 use Rattle.solid_model.specs.Grid.{Coordinates, gaps_along}
 use Rattle.solid_model.specs.Marks.{BoxMarks, is_marked}
 use Rattle.solid_model.specs.PerAxis.{numbers_of}
-use Rattle.solid_model.specs.Rooms.{is_within, box_place}
+use Rattle.solid_model.specs.WalledBoxes.{is_within, box_place}
 use Rattle.stl_out.specs.declared.rectangle.Rectangle.{Rectangle}
 use Rattle.stl_out.specs.Rectangles.{AreRectanglesOf, all_triangles}
 use Rattle.stl_out.specs.StlText.{stl_text, IsStlOf}

@@ -14,9 +14,8 @@ ghost use Rattle.stl_out.specs.Numbered.{AreShort, IsOfGrid};
 ghost use Rattle.stl_out.specs.Pieces.{rectangle_text};
 ghost use Rattle.stl_out.specs.Rectangles.{all_triangles};
 ghost use Rattle.stl_out.specs.StlText.{stl_text, IsStlOf};
-ghost use Rattle.text_pieces.specs.Pieces.{WritesOn};
+ghost use Rattle.tv_base.specs.Pieces.{WritesOn, AppendsPrefix};
 ghost use Rattle.tv_base.specs.Faults.{Rose};
-ghost use Rattle.tv_base.specs.Pieces.{AppendsPrefix};
 
 use crate::corner_parts::CornerParts;
 use crate::rectangle::Rectangle;
@@ -24,8 +23,7 @@ use crate::surface::rectangles_of;
 use crate::text::push_rectangle;
 use solid_model::{Choice, Grid, Problem};
 use std::alloc::Global;
-use text_pieces::{PIECE, make_room, write_piece};
-use tv_base::{Sink, SinkError};
+use tv_base::{PIECE, Sink, SinkError, write_if_full, write_piece};
 
 /// Adds a rectangle's two triangles to the piece, after it was written where it was full.
 fn write_rectangle<K: Sink>(
@@ -47,7 +45,7 @@ fn write_rectangle<K: Sink>(
     ensures failed { IsErrOf result SinkError.Failed →
         Rose (K.faults sink.old) (K.faults sink.new) }
 {
-    make_room(piece, sink)?;
+    write_if_full(piece, sink)?;
     push_rectangle(piece, parts, rectangle)?;
     Ok(())
 }

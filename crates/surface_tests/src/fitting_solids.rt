@@ -1,7 +1,6 @@
 //! Solids, and the further views and sections that they fit.
 
 use crate::surfaces::{choice_of, problem_at};
-use choice_sieves::Sieve;
 use dxf_entities::entities;
 use dxf_groups::Groups;
 use fit_lanes::FurtherSieve;

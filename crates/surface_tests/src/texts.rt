@@ -3,7 +3,7 @@
 ghost use Rattle.std.specs.Prelude.{◌≡◌};
 
 use crate::surfaces::{choice_of, problem_at};
-use report::{SolidRoom, SolidTexts, page_text, solid_text, trial_text};
+use report::{SolidBuffers, SolidTexts, page_text, solid_text, trial_text};
 use solid_model::{Choice, EndKind, Ended, Problem};
 use std::alloc::Global;
 use std::test::Fail;
@@ -50,22 +50,22 @@ rect S 0 0 3 3, rect D 1 1 2 2; rect S 0 0 3 3, rect D 1 1 2 2; rect S 0 0 3 3, 
     face -z at 0 loop 0,0,0 0,3,0 3,3,0 3,0,0|face -z at 2 loop 1,1,2 1,2,2 2,2,2 2,1,2|\
     face +z at 1 loop 1,1,1 2,1,1 2,2,1 1,2,1|face +z at 3 loop 0,0,3 3,0,3 3,3,3 0,3,3|";
 
-/// The text of the first solid of a problem, as it is told in a room.
-fn text_in_room(alloc: Global, problem: &Problem, choice: &Choice) -> Result<Vec<u8>, Fail> {
+/// The text of the first solid of a problem, as it is told in buffers.
+fn text_in_buffers(alloc: Global, problem: &Problem, choice: &Choice) -> Result<Vec<u8>, Fail> {
     let texts = SolidTexts::of(alloc, problem, 0)?;
-    let mut room = texts.room(alloc)?;
-    texts.tell(alloc, 1, choice, &mut room)?;
-    Ok(room.text)
+    let mut buffers = texts.buffers(alloc)?;
+    texts.tell(alloc, 1, choice, &mut buffers)?;
+    Ok(buffers.text)
 }
 
-/// The text of a row's solid, as the row has it, if it is told so alone and in a room.
+/// The text of a row's solid, as the row has it, if it is told so alone and in buffers.
 fn told_solid(alloc: Global, row: Row<'_>) -> Result<String, Fail> {
     let [_, _, _, full, _] = row.parts;
     let problem = problem_at(alloc, row.views())?;
     let choice = choice_of(alloc, full)?;
     let text = solid_text(alloc, &problem, 1, &choice, 0)?;
-    if text.as_slice() != text_in_room(alloc, &problem, &choice)?.as_slice() {
-        return Err(Fail::new("another text in a room"));
+    if text.as_slice() != text_in_buffers(alloc, &problem, &choice)?.as_slice() {
+        return Err(Fail::new("another text in buffers"));
     }
     let text = std::str::from_utf8(text.as_slice()).unwrap_or("no text");
     Ok(text.replace(alloc, "\n", "|")?)
@@ -76,65 +76,66 @@ fn solids_are_told(rt: HostRuntime) -> Result<(), Fail> {
     rows_tell(SOLIDS, |row| told_solid(rt.alloc(), row))
 }
 
-/// A row a drawing, and some of its solids, by their full blocks, one after another in one room;
-/// and then the first line of each. Of a hollow cube they are the hull, the whole, the core and
-/// nothing: planes stay, and others get squares or lose them.
+/// A row a drawing, and some of its solids, by their full blocks, one after another in the same
+/// buffers; and then the first line of each. Of a hollow cube they are the hull, the whole, the core
+/// and nothing: planes stay, and others get squares or lose them.
 const SOLIDS_IN_TURN: &str = "\
 rect S 0 0 3 3, rect D 1 1 2 2; rect S 0 0 3 3, rect D 1 1 2 2; rect S 0 0 3 3, rect D 1 1 2 2; \
     10 11 01 00 10 10 -> solid 1 choice 10 volume 26 faces 12|solid 1 choice 11 volume 27 faces 6|\
     solid 1 choice 01 volume 1 faces 6|solid 1 choice 00 volume 0 faces 0|\
     solid 1 choice 10 volume 26 faces 12|solid 1 choice 10 volume 26 faces 12|";
 
-/// Adds the first line of the text of a solid, told in a room after others, if it is told so alone.
+/// Adds the first line of the text of a solid, told in buffers after others, if it is told so
+/// alone.
 fn push_in_turn(
     alloc: Global,
     problem: &Problem,
     texts: &SolidTexts<'_>,
     full: &str,
-    room: &mut SolidRoom,
+    buffers: &mut SolidBuffers,
     told: &mut String,
 ) -> Result<(), Fail>
-    requires { room.old.rows.sizes ≡ texts.now.problem.blocks.sizes }
-    ensures { room.new.rows.sizes ≡ texts.now.problem.blocks.sizes }
+    requires { buffers.old.rows.sizes ≡ texts.now.problem.blocks.sizes }
+    ensures { buffers.new.rows.sizes ≡ texts.now.problem.blocks.sizes }
 {
     let choice = choice_of(alloc, full)?;
-    texts.tell(alloc, 1, &choice, room)?;
-    if room.text.as_slice() != solid_text(alloc, problem, 1, &choice, 0)?.as_slice() {
+    texts.tell(alloc, 1, &choice, buffers)?;
+    if buffers.text.as_slice() != solid_text(alloc, problem, 1, &choice, 0)?.as_slice() {
         return Err(Fail::new("another text after others"));
     }
-    let text = std::str::from_utf8(room.text.as_slice()).unwrap_or("no text");
+    let text = std::str::from_utf8(buffers.text.as_slice()).unwrap_or("no text");
     told.push_str(text.lines().next().unwrap_or(""))?;
     Ok(told.push_str("|")?)
 }
 
-/// The first lines of the texts of a problem's solids, told one after another in a room.
+/// The first lines of the texts of a problem's solids, told one after another in buffers.
 fn told_in_turn(
     alloc: Global,
     problem: &Problem,
     texts: &SolidTexts<'_>,
     solids: &str,
-    room: &mut SolidRoom,
+    buffers: &mut SolidBuffers,
 ) -> Result<String, Fail>
-    requires { room.old.rows.sizes ≡ texts.now.problem.blocks.sizes }
+    requires { buffers.old.rows.sizes ≡ texts.now.problem.blocks.sizes }
 {
     let mut told = String::new(alloc);
     for full in solids.split(' ') {
-        push_in_turn(alloc, problem, texts, full, room, &mut told)?;
+        push_in_turn(alloc, problem, texts, full, buffers, &mut told)?;
     }
     Ok(told)
 }
 
-/// Those of a problem, in a new room.
-fn told_in_room(alloc: Global, problem: &Problem, solids: &str) -> Result<String, Fail> {
+/// Those of a problem, in new buffers.
+fn told_in_buffers(alloc: Global, problem: &Problem, solids: &str) -> Result<String, Fail> {
     let texts = SolidTexts::of(alloc, problem, 0)?;
-    let mut room = texts.room(alloc)?;
-    told_in_turn(alloc, problem, &texts, solids, &mut room)
+    let mut buffers = texts.buffers(alloc)?;
+    told_in_turn(alloc, problem, &texts, solids, &mut buffers)
 }
 
 /// Those of a row, as the row has them.
 fn told_in_turn_of(alloc: Global, row: Row<'_>) -> Result<String, Fail> {
     let problem = problem_at(alloc, row.views())?;
-    told_in_room(alloc, &problem, row.parts[3])
+    told_in_buffers(alloc, &problem, row.parts[3])
 }
 
 #[test]

@@ -5,10 +5,10 @@ use Rattle.std.proofs.Math.Seq.{take-add}
 use Rattle.std.specs.Io.KnownBytes.{Appends, Consumes}
 use Rattle.tv_base.specs.Pieces.{ReadsWithin, ReadsPast}
 
--- what was copied to a room's beginning, and what is left of the bytes, are the bytes
-pub copied_and_left : (xs room new : List ℕ) (n : ℕ) → n ≤ length xs → new ≡ take n xs ++ drop n room → xs ≡ take n new ++ drop n xs
-copied_and_left xs room new n within copied =
-    sym (ap (λ ys. ys ++ drop n xs) (ap (take n) copied ∙ take_at (take n xs) (drop n room) n (length-take-le n xs within)) ∙ take-append-drop n xs)
+-- what was copied to a buffer's beginning, and what is left of the bytes, are the bytes
+pub copied_and_left : (xs buffer new : List ℕ) (n : ℕ) → n ≤ length xs → new ≡ take n xs ++ drop n buffer → xs ≡ take n new ++ drop n xs
+copied_and_left xs buffer new n within copied =
+    sym (ap (λ ys. ys ++ drop n xs) (ap (take n) copied ∙ take_at (take n xs) (drop n buffer) n (length-take-le n xs within)) ∙ take-append-drop n xs)
 
 -- two pieces appended one after the other are one piece
 pub appends_both : (a b c : Option (List ℕ)) (xs ys : List ℕ) → Appends a b xs → Appends b c ys → Appends a c (xs ++ ys)

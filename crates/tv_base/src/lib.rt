@@ -4,6 +4,7 @@
 mod gate;
 mod mem_sink;
 mod mem_source;
+mod pieces;
 mod read;
 mod sink;
 mod source;
@@ -13,6 +14,7 @@ mod std_source;
 pub use gate::{Gate, OpenGate, Point};
 pub use mem_sink::MemSink;
 pub use mem_source::MemSource;
+pub use pieces::{PIECE, write_if_full, write_piece};
 pub use read::{ReadEnd, read_all};
 pub use sink::{Sink, SinkError};
 pub use source::{Failed, Source};

@@ -38,7 +38,7 @@ impl Model for MemSource {
 
 impl MemSource {
     /// A source of these bytes, whose calls of the numbers in `fail` fail. A call gives as many
-    /// bytes as are left and its room can have. A number of a call is a `u64` that stays at its
+    /// bytes as are left and its buffer can have. A number of a call is a `u64` that stays at its
     /// greatest value.
     pub fn new(bytes: Vec<u8>, fail: Vec<u32>) -> Self
         ensures { result ≡ record {
@@ -81,14 +81,14 @@ fn is_listed(fail: &[u32], call: u64) -> bool
     fail.iter().any(|listed| u64::from(*listed) == call)
 }
 
-/// Copies as many bytes as both have, and at most so many, to the beginning of the room, and says
+/// Copies as many bytes as both have, and at most so many, to the beginning of the buffer, and says
 /// how many they are.
-fn copy_prefix(from: &[u8], most: usize, room: &mut [u8]) -> usize
-    ensures count { result ≡ min (min (length room.old) (length from.now)) most }
-    ensures copied { room.new ≡ take result from.now ++ drop result room.old }
+fn copy_prefix(from: &[u8], most: usize, buffer: &mut [u8]) -> usize
+    ensures count { result ≡ min (min (length buffer.old) (length from.now)) most }
+    ensures copied { buffer.new ≡ take result from.now ++ drop result buffer.old }
 {
-    let count = room.len().min(from.len()).min(most);
-    room[..count].copy_from_slice(&from[..count]);
+    let count = buffer.len().min(from.len()).min(most);
+    buffer[..count].copy_from_slice(&from[..count]);
     count
 }
 
@@ -97,25 +97,25 @@ impl Source for MemSource {
 
     ghost faults = { λ s. s.faults };
 
-    fn read(&mut self, room: &mut [u8]) -> Result<usize, Failed>
+    fn read(&mut self, buffer: &mut [u8]) -> Result<usize, Failed>
         ensures later { self.old.faults ≤ self.new.faults }
-        ensures fits { IfOk result (λ n. n ≤ length room.new) }
+        ensures fits { IfOk result (λ n. n ≤ length buffer.new) }
         ensures bytes { IfOk result (λ n.
-            Consumes (Some self.old.left) (Some self.new.left) (take n room.new)) }
+            Consumes (Some self.old.left) (Some self.new.left) (take n buffer.new)) }
         ensures end { IfOk result (λ n.
-            n ≡ 0 → 0 < length room.new → IsAtEnd (Some self.new.left)) }
+            n ≡ 0 → 0 < length buffer.new → IsAtEnd (Some self.new.left)) }
         ensures failed { OnErr result (Rose self.old.faults self.new.faults) }
 
         // A call fails exactly where its number is listed.
         ensures listed { IsErr result ↔ Contains self.old.fail (one_more self.old.calls) }
         ensures count { IfOk result (λ n.
-            n ≡ min (min (length room.old) (length self.old.left)) self.old.step) }
-        ensures copied { IfOk result (λ n. room.new ≡ take n self.old.left ++ drop n room.old) }
+            n ≡ min (min (length buffer.old) (length self.old.left)) self.old.step) }
+        ensures copied { IfOk result (λ n. buffer.new ≡ take n self.old.left ++ drop n buffer.old) }
         ensures ok { IfOk result (λ n. self.new ≡ record self.old {
           left = drop n self.old.left;
           calls = one_more self.old.calls;
         }) }
-        ensures room { OnErr result (room.new ≡ room.old) }
+        ensures buffer { OnErr result (buffer.new ≡ buffer.old) }
         ensures err { OnErr result (self.new ≡ record self.old {
           calls = one_more self.old.calls;
           faults = one_more self.old.faults;
@@ -126,7 +126,7 @@ impl Source for MemSource {
             self.faults = self.faults.saturating_add(1);
             return Err(Failed);
         }
-        let count = copy_prefix(&self.bytes[self.at..], self.step, room);
+        let count = copy_prefix(&self.bytes[self.at..], self.step, buffer);
         self.at += count;
         Ok(count)
     }

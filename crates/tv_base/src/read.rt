@@ -39,7 +39,7 @@ impl From<Failed> for ReadEnd {
 }
 
 /// The most bytes of one read.
-const ROOM: usize = 65_536;
+const BUFFER: usize = 65_536;
 
 /// Reads to the source's end, which is at most `most` bytes away: at one byte more it stops
 /// reading, and answers `TooLong`. It answers `Failed` where the source does, and `Memory` where
@@ -55,10 +55,10 @@ pub fn read_all<S: Source>(alloc: Global, source: &mut S, most: usize) -> Result
     ensures failed { IsErrOf result ReadEnd.Failed →
         Rose (S.faults source.old) (S.faults source.new) }
 {
-    let mut room = vec![in alloc; 0u8; ROOM.min(most.saturating_add(1))]?;
+    let mut buffer = vec![in alloc; 0u8; BUFFER.min(most.saturating_add(1))]?;
     let mut bytes = Vec::new(alloc);
     loop {
-        let count = read_more(source, &mut room, &mut bytes, most)?;
+        let count = read_more(source, &mut buffer, &mut bytes, most)?;
         if count == 0 {
             return Ok(bytes);
         }
@@ -69,12 +69,12 @@ pub fn read_all<S: Source>(alloc: Global, source: &mut S, most: usize) -> Result
 /// says how many bytes it is.
 fn read_more<S: Source>(
     source: &mut S,
-    room: &mut [u8],
+    buffer: &mut [u8],
     bytes: &mut Vec<u8>,
     most: usize,
 ) -> Result<usize, ReadEnd>
     requires fits { length bytes.old.items ≤ most }
-    requires room { 0 < length room.old }
+    requires buffer { 0 < length buffer.old }
     ensures later { S.faults source.old ≤ S.faults source.new }
     ensures ok { IfOk result (λ count. (piece : List ℕ) × (length piece ≡ count)
         × (bytes.new.items ≡ bytes.old.items ++ piece)
@@ -90,11 +90,11 @@ fn read_more<S: Source>(
         Rose (S.faults source.old) (S.faults source.new) }
 {
     let spare = most - bytes.len();
-    let open = room.len().min(spare.saturating_add(1));
-    let count = source.read(&mut room[..open])?;
+    let open = buffer.len().min(spare.saturating_add(1));
+    let count = source.read(&mut buffer[..open])?;
     if count > spare {
         return Err(ReadEnd::TooLong);
     }
-    bytes.extend_from_slice(&room[..count])?;
+    bytes.extend_from_slice(&buffer[..count])?;
     Ok(count)
 }

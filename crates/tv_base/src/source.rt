@@ -1,6 +1,6 @@
 //! Where bytes come from.
 //!
-//! A read that fails loses at most as many bytes as its room has: that is a clause (`lost`), since
+//! A read that fails loses at most as many bytes as its buffer has: that is a clause (`lost`), since
 //! nothing else says what is left after it. So what was read can be bounded whatever `read_all`
 //! answers.
 
@@ -21,16 +21,16 @@ pub trait Source {
     /// How often the source has failed. The count stands still at the greatest `u64`.
     ghost faults: { Self → ℕ };
 
-    /// Puts the next bytes at the beginning of the room, and says how many they are. 0 bytes into a
-    /// room that isn't empty is the end. `Failed` comes only where the count of faults rose in this
-    /// call, and then no more bytes are lost than the room has.
-    fn read(&mut self, room: &mut [u8]) -> Result<usize, Failed>
+    /// Puts the next bytes at the beginning of the buffer, and says how many they are. 0 bytes into
+    /// a buffer that isn't empty is the end. `Failed` comes only where the count of faults rose in
+    /// this call, and then no more bytes are lost than the buffer has.
+    fn read(&mut self, buffer: &mut [u8]) -> Result<usize, Failed>
         ensures later { faults self.old ≤ faults self.new }
-        ensures fits { IfOk result (λ n. n ≤ length room.new) }
+        ensures fits { IfOk result (λ n. n ≤ length buffer.new) }
         ensures bytes { IfOk result (λ n.
-            Consumes (left self.old) (left self.new) (take n room.new)) }
-        ensures end { IfOk result (λ n. n ≡ 0 → 0 < length room.new → IsAtEnd (left self.new)) }
+            Consumes (left self.old) (left self.new) (take n buffer.new)) }
+        ensures end { IfOk result (λ n. n ≡ 0 → 0 < length buffer.new → IsAtEnd (left self.new)) }
         ensures failed { OnErr result (Rose (faults self.old) (faults self.new)) }
         ensures lost { OnErr result
-            (ReadsWithin (left self.old) (left self.new) (length room.new)) };
+            (ReadsWithin (left self.old) (left self.new) (length buffer.new)) };
 }

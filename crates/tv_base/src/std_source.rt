@@ -31,11 +31,11 @@ impl<R: Read> Source for StdSource<R> {
 
     ghost faults = { source_faults };
 
-    fn read(&mut self, room: &mut [u8]) -> Result<usize, Failed>
+    fn read(&mut self, buffer: &mut [u8]) -> Result<usize, Failed>
         ensures later { source_faults self.old ≤ source_faults self.new }
-        ensures fits { IfOk result (λ n. n ≤ length room.new) }
-        ensures bytes { IfOk result (λ n. Consumes None None (take n room.new)) }
-        ensures end { IfOk result (λ n. n ≡ 0 → 0 < length room.new → IsAtEnd None) }
+        ensures fits { IfOk result (λ n. n ≤ length buffer.new) }
+        ensures bytes { IfOk result (λ n. Consumes None None (take n buffer.new)) }
+        ensures end { IfOk result (λ n. n ≡ 0 → 0 < length buffer.new → IsAtEnd None) }
         ensures failed { OnErr result (Rose (source_faults self.old) (source_faults self.new)) }
 
         // Each Err is counted, and nothing else is.
@@ -43,10 +43,10 @@ impl<R: Read> Source for StdSource<R> {
             ≡ (if is_ok result then source_faults self.old else one_more (source_faults self.old)) }
 
         // What the reader itself tells of its bytes.
-        ensures reader { ReadConsumes
-            (R.remaining (reader_of self.old)) (R.remaining (reader_of self.new)) result room.new }
+        ensures reader { ReadConsumes (R.remaining (reader_of self.old))
+            (R.remaining (reader_of self.new)) result buffer.new }
     {
-        match self.reader.read(room) {
+        match self.reader.read(buffer) {
             Ok(count) => Ok(count),
             Err(_) => {
                 self.faults = self.faults.saturating_add(1);

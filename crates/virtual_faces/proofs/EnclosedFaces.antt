@@ -10,7 +10,7 @@ use Rattle.solid_model.specs.Cells.{coordinate, cell_before}
 use Rattle.solid_model.specs.Marks.{BoxMarks, AxisMarks, marks_along, is_marked, AreMarksOf}
 use Rattle.solid_model.specs.Panels.{GridParts}
 use Rattle.solid_model.specs.PerAxis.{numbers_of}
-use Rattle.solid_model.specs.Rooms.{Sizes, same_axis, is_below, is_within, box_place, box_count, face_sizes, Walls, LeadsOut}
+use Rattle.solid_model.specs.WalledBoxes.{Sizes, same_axis, is_below, is_within, box_place, box_count, face_sizes, Walls, LeadsOut}
 use Rattle.solid_model.specs.Kept.{edge_sizes, IsWireOf}
 use Rattle.solid_model.specs.VirtualFaces.{axis_across_both, Bars, IsVirtual}
 use Rattle.solid_model.specs.Wire.{is_pseudo_edge}

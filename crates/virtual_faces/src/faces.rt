@@ -3,13 +3,13 @@
 ghost use Rattle.std.specs.Prelude.{◌≡◌, ◌||◌, not, map, IsTrue, IfOk};
 ghost use Rattle.solid_model.specs.Marks.{marks_along, is_marked, AreMarksOf};
 ghost use Rattle.solid_model.specs.PerAxis.{numbers_of};
-ghost use Rattle.solid_model.specs.Rooms.{same_axis, face_sizes};
+ghost use Rattle.solid_model.specs.WalledBoxes.{same_axis, face_sizes};
 ghost use Rattle.solid_model.specs.VirtualFaces.{axis_across_both, IsVirtual};
 ghost use Rattle.solid_model.specs.Kept.{IsFaceMapOf, IsWireOf};
 ghost use Rattle.solid_model.specs.GridBox.{grid_sizes};
 
 use flood::{Walls, leading_out};
-use solid_model::{Axis, FaceMap, Grid, Marks, Memory, PerAxis, Wire};
+use solid_model::{Axis, FaceMap, Grid, Marks, MarksByAxis, Memory, PerAxis, Wire};
 use std::alloc::Global;
 
 /// The axis across two different ones.
@@ -76,8 +76,7 @@ fn faces_across(alloc: Global, grid: &Grid, wire: &Wire, axis: Axis) -> Result<M
     ensures { IfOk result (λ marks. AreMarksOf (face_sizes (grid_sizes grid.now) axis)
         (IsVirtual grid.now axis) marks) }
 {
-    // A look at the sizes tells that no row is longer than a word.
-    let _ = grid.sizes();
+    grid.known();
     let leading = leading_out(alloc, &FacesAcross { grid, wire, axis })?;
     let marks = others(alloc, &leading)?;
     Ok(marks)
@@ -90,9 +89,9 @@ pub fn faces_of(alloc: Global, grid: &Grid, wire: &Wire) -> Result<FaceMap, Memo
     requires { IsWireOf grid.now wire.now }
     ensures { IfOk result (λ faces. IsFaceMapOf grid.now faces) }
 {
-    Ok(FaceMap::new(
-        faces_across(alloc, grid, wire, Axis::X)?,
-        faces_across(alloc, grid, wire, Axis::Y)?,
-        faces_across(alloc, grid, wire, Axis::Z)?,
-    ))
+    Ok(MarksByAxis {
+        x: faces_across(alloc, grid, wire, Axis::X)?,
+        y: faces_across(alloc, grid, wire, Axis::Y)?,
+        z: faces_across(alloc, grid, wire, Axis::Z)?,
+    })
 }

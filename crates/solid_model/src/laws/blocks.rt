@@ -12,7 +12,7 @@ ghost use Rattle.solid_model.specs.Edges.{is_edge};
 ghost use Rattle.solid_model.specs.Grid.{LiesInGridCell};
 ghost use Rattle.solid_model.specs.Matching.{Matches, AreSolidsOf};
 ghost use Rattle.solid_model.specs.Panels.{GridParts, coordinates_of, IsGridOf};
-ghost use Rattle.solid_model.specs.Rooms.{is_within};
+ghost use Rattle.solid_model.specs.WalledBoxes.{is_within};
 ghost use Rattle.solid_model.specs.VirtualFaces.{IsVirtual};
 ghost use Rattle.solid_model.specs.Wire.{is_pseudo_edge};
 ghost use Rattle.solid_model.specs.GridBox.{grid_sizes, grid_cell_of, IsGridFullness};

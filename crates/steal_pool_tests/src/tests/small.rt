@@ -39,8 +39,8 @@ fn play<R: Wait>(
     Some((empty, stolen, taken))
 }
 
-/// A pool of two workers with room for two pieces each, played and closed. `None` where memory was
-/// lacking, or a call answered otherwise than it should.
+/// A pool of two workers with capacity for two pieces each, played and closed. `None` where memory
+/// was lacking, or a call answered otherwise than it should.
 fn played_and_closed<R: Wait>(rt: &R, alloc: Global) -> Option<Answers> {
     let Ok((pool, mut seats)) = Pool::open(alloc, 2, 2) else {
         return None;
@@ -88,8 +88,8 @@ fn left_of_five(alloc: Global) -> Option<usize> {
     Some(pool.close(seats).ok()?.left.len())
 }
 
-/// How many pieces the only deque of a pool with room for two takes in before one comes back, where
-/// at most so many are put. `None` where none comes back, or memory was lacking.
+/// How many pieces the only deque of a pool with capacity for two takes in before one comes back,
+/// where at most so many are put. `None` where none comes back, or memory was lacking.
 fn taken_in(alloc: Global, most: u32) -> Option<u32> {
     let Ok((_, mut seats)) = Pool::open(alloc, 1, 2) else {
         return None;

@@ -117,8 +117,8 @@ class Asking:
         from drafting import settle
         from drafting.cells import grid_round
         solids = settle.of_first_reading(asked) if asked.rounds else asked.answer().solids
-        if not 1 < len(solids) <= settle.MOST_SETTLED:
-            return {"views": [], "left": len(solids), "words": ""}
+        if not 1 < len(solids) <= settle.MOST_SETTLED or asked.rounds and asked.rounds.elsewhere:
+            return {"views": [], "left": len(asked.kept) if asked.rounds else len(solids), "words": ""}
         if not asked.page or not 0 < self.part <= len(solids):
             return {"views": [], "left": len(solids), "words": settle.settled_by(asked.answer()._replace(solids=solids), asked.sheet())}
         cells = grid_round(solids)

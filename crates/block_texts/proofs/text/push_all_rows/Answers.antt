@@ -7,7 +7,7 @@ use Rattle.solid_model.specs.declared.cell.Axis.TheVariants.{X, Y, Z}
 use Rattle.solid_model.specs.Blocks.{BlockNumbers}
 use Rattle.solid_model.specs.GridBox.{grid_sizes}
 use Rattle.solid_model.specs.PerAxis.{numbers_of}
-use Rattle.solid_model.specs.Rooms.{box_count}
+use Rattle.solid_model.specs.WalledBoxes.{box_count}
 use Rattle.block_texts.specs.BlockTexts.{row_lines}
 use Rattle.block_texts.proofs.text.push_all_rows.Goals as goal
 

@@ -3,7 +3,7 @@ use Rattle.std.proofs.Common.{◌≡◌, Bool, List, ◌∷◌, [], map, refl, a
 use Rattle.std.proofs.lemmas.List.{map-append}
 use Rattle.std.proofs.lemmas.Result.{IfOk-weaker}
 use Rattle.solid_model.specs.PerAxis.{numbers_of, numbered, AreFew}
-use Rattle.solid_model.specs.Rooms.{box_count}
+use Rattle.solid_model.specs.WalledBoxes.{box_count}
 use Rattle.lemmas.proofs.Pushed.{HoldsSoFar, holds_more}
 use Rattle.cell_rows.specs.Spans.{is_filled, chosen_marks, AreRowSpans}
 use Rattle.cell_rows.specs.Rows.{row_sizes}

@@ -2,7 +2,7 @@
 use Rattle.std.proofs.Common.{◌≡◌, ◌==◌, ◌+◌, ◌*◌, ◌≤◌, ◌<◌, false, slice_index_or, ap, sym, subst, ◌∙◌, arith}
 use Rattle.std.proofs.lemmas.Nat.Bits.{bit_at-zero}
 use Rattle.solid_model.specs.PerAxis.{numbers_of, cell_of, AreFew}
-use Rattle.solid_model.specs.Rooms.{is_within, box_place, box_count}
+use Rattle.solid_model.specs.WalledBoxes.{is_within, box_place, box_count}
 use Rattle.solid_model.proofs.BoxPlaces.{cells_small}
 use Rattle.cell_rows.specs.Rows.{is_marked_at, stride_along}
 use Rattle.lemmas.proofs.FilledWords.{IsFilledBy, filled_none, fill_clear, fill_set, filled_whole}

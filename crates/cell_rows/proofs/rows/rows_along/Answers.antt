@@ -2,7 +2,7 @@
 use Rattle.std.proofs.Common.{◌≡◌, length, ap, sym, subst, ◌∙◌, arith}
 use Rattle.lemmas.specs.Bits.{is_set}
 use Rattle.solid_model.specs.PerAxis.{numbers_of, numbered, AreFew}
-use Rattle.solid_model.specs.Rooms.{box_count}
+use Rattle.solid_model.specs.WalledBoxes.{box_count}
 use Rattle.lemmas.proofs.Pushed.{holds_more}
 use Rattle.cell_rows.specs.Rows.{row_sizes}
 use Rattle.cell_rows.proofs.RowCells.{few_rows, IsRowAt, row_at, all_rows}

@@ -28,4 +28,4 @@ returns c =
     let t = c.args.squares.now in
     let end : c.loop-v.v ≡ 64 = omega (arith, c.loop-v-test.false) in
     let all = subst (HoldsSoFar (IsEndRow t) c.loop-v.ends.items) end c.loop-v.invariant.rows in
-    (all.count, ends_told t c.rows.ensures.few c.loop-v.ends.items all)
+    (all.count, ends_told t c.known.ensures c.loop-v.ends.items all)

@@ -7,7 +7,7 @@ use Rattle.face_laws.specs.GridFaces.{numbered_fullness, face_in_space, grid_pla
 use Rattle.lemmas.specs.Lists.{Each}
 use Rattle.solid_model.specs.Marks.{is_marked}
 use Rattle.solid_model.specs.Panels.{coordinates_of}
-use Rattle.solid_model.specs.Rooms.{is_within, box_place}
+use Rattle.solid_model.specs.WalledBoxes.{is_within, box_place}
 use Rattle.face_laws.proofs.GridPlanes.{union_faces}
 use Rattle.faces.specs.GridPoints.{HasFace}
 use Rattle.faces.proofs.FacesOnGrid.{faces_on_grid}
@@ -24,7 +24,7 @@ returns c = λ full is_union.
     let coordinates = coordinates_of c.args.grid.now in
     let marked = c.args.rows.now in
     let faces : List FaceParts = c.put_faces.new.faces in
-    let (drawing, is_drawing, is_grid) = c.coordinates.ensures.kept in
+    let (drawing, is_drawing, is_grid) = c.known.ensures.kept in
     let same : is_marked marked ≡ numbered_fullness coordinates marked.values =
     λ t n. is_within (c.requires t) n && slice_index_or marked.values (box_place (c.requires t) n) false in
     let numbered = subst (λ (f : Cell → Bool). AreFacesOf f c.in_ok-faces.faces.items) same c.in_ok-faces.ensures in

@@ -7,7 +7,7 @@ use Rattle.solid_model.specs.Grid.{IsUnionOf}
 use Rattle.solid_model.specs.Marks.{BoxMarks}
 use Rattle.solid_model.specs.Panels.{coordinates_of}
 use Rattle.solid_model.specs.PerAxis.{numbers_of}
-use Rattle.solid_model.specs.Rooms.{box_count}
+use Rattle.solid_model.specs.WalledBoxes.{box_count}
 use Rattle.faces.proofs.solid.faces_of_solid.Goals as goal
 
 pub new-marks-requires : goal.new-marks-requires

@@ -11,7 +11,7 @@ use Rattle.solid_model.specs.Blocks.{BlockNumbers}
 use Rattle.solid_model.specs.Choices.{cells_of_choice}
 use Rattle.solid_model.specs.GridPlaces.{number_on, grid_cell_in}
 use Rattle.solid_model.specs.PerAxis.{numbers_of, cell_of, numbered}
-use Rattle.solid_model.specs.Rooms.{is_within, box_place, box_count}
+use Rattle.solid_model.specs.WalledBoxes.{is_within, box_place, box_count}
 use Rattle.column_laws.specs.GridColumns.{grid_column}
 use Rattle.dxf_entities.specs.declared.layer.Layer.{Layer}
 use Rattle.six_views.specs.SightFrames.{sight_frame}

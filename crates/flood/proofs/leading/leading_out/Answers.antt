@@ -5,7 +5,7 @@ use Rattle.std.proofs.lemmas.Nat.{mul-le}
 use Rattle.solid_model.specs.declared.cell.Axis.TheVariants.{Y, Z}
 use Rattle.solid_model.specs.Marks.{AreMarksOf}
 use Rattle.solid_model.specs.PerAxis.{numbers_of}
-use Rattle.solid_model.specs.Rooms.{Sizes}
+use Rattle.solid_model.specs.WalledBoxes.{Sizes}
 use Rattle.flood.specs.RowFlood.{ways_of, FloodsRows}
 use Rattle.flood.specs.RowWords.{is_in_rows}
 use Rattle.flood.proofs.RowLeads.{leading_marked}

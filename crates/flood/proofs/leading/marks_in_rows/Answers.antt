@@ -2,7 +2,7 @@
 use Rattle.std.proofs.Common.{◌≡◌, IsTrue, sym, subst, ◌∙◌, arith}
 use Rattle.solid_model.specs.Marks.{AreMarksOf}
 use Rattle.solid_model.specs.PerAxis.{numbers_of, cell_of}
-use Rattle.solid_model.specs.Rooms.{box_count}
+use Rattle.solid_model.specs.WalledBoxes.{box_count}
 use Rattle.solid_model.proofs.MarkedCells.{IsAnswerAt, answer_at, all_marked}
 use Rattle.lemmas.proofs.Pushed.{holds_more}
 use Rattle.flood.specs.RowWords.{is_in_rows}

@@ -1,7 +1,7 @@
 -- The cells so far.
 use Rattle.std.proofs.Common.{◌≡◌, ◌<◌, ◌≤◌, ◌+◌, IsTrue, vec_capacity}
 use Rattle.solid_model.specs.PerAxis.{numbers_of, cell_of}
-use Rattle.solid_model.specs.Rooms.{is_within, box_place, box_count}
+use Rattle.solid_model.specs.WalledBoxes.{is_within, box_place, box_count}
 use Rattle.solid_model.proofs.MarkedCells.{IsAnswerAt}
 use Rattle.lemmas.proofs.Pushed.{HoldsSoFar}
 use Rattle.flood.specs.RowWords.{is_in_rows}

@@ -2,7 +2,7 @@
 use Rattle.std.proofs.Common.{◌≡◌, IsTrue, ap, subst, ◌∙◌, arith}
 use Rattle.solid_model.specs.declared.cell.Cell.{Cell}
 use Rattle.solid_model.specs.PerAxis.{numbers_of, cell_of}
-use Rattle.solid_model.specs.Rooms.{Sizes, is_within, box_place, box_count}
+use Rattle.solid_model.specs.WalledBoxes.{Sizes, is_within, box_place, box_count}
 use Rattle.lemmas.proofs.Pushed.{holds_more}
 use Rattle.flood.specs.Ring.{ringed}
 use Rattle.flood.proofs.RingPassages.{AreBarsAt, bars_at, all_bars_told}

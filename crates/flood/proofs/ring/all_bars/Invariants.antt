@@ -1,7 +1,7 @@
 -- The bars so far.
 use Rattle.std.proofs.Common.{◌≡◌, ◌<◌, ◌≤◌, ◌+◌, IsTrue, vec_capacity}
 use Rattle.solid_model.specs.PerAxis.{numbers_of, cell_of}
-use Rattle.solid_model.specs.Rooms.{is_within, box_place, box_count}
+use Rattle.solid_model.specs.WalledBoxes.{is_within, box_place, box_count}
 use Rattle.lemmas.proofs.Pushed.{HoldsSoFar}
 use Rattle.flood.proofs.RingPassages.{AreBarsAt}
 use Rattle.flood.proofs.ring.all_bars.Given as goal

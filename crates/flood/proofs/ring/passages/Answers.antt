@@ -4,7 +4,7 @@ use Rattle.std.proofs.lemmas.Nat.{mul-le}
 use Rattle.solid_model.specs.declared.cell.Axis.{Axis}
 use Rattle.solid_model.specs.declared.cell.Axis.TheVariants.{X, Y, Z}
 use Rattle.solid_model.specs.PerAxis.{numbers_of}
-use Rattle.solid_model.specs.Rooms.{Sizes, box_count}
+use Rattle.solid_model.specs.WalledBoxes.{Sizes, box_count}
 use Rattle.flood.specs.Ring.{ringed, ring_stride}
 use Rattle.flood.proofs.ring.passages.Goals as goal
 

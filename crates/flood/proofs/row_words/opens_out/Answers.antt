@@ -1,7 +1,7 @@
 -- The numbers of a cell of the box are few.
 use Rattle.std.proofs.Common.{IsTrue, sym, subst}
 use Rattle.solid_model.specs.PerAxis.{numbers_of, cell_of}
-use Rattle.solid_model.specs.Rooms.{is_within}
+use Rattle.solid_model.specs.WalledBoxes.{is_within}
 use Rattle.solid_model.proofs.BoxPlaces.{few_numbers}
 use Rattle.flood.proofs.row_words.opens_out.Goals as goal
 

@@ -3,7 +3,7 @@ use Rattle.std.proofs.Common.{◌≡◌, ◌&&◌, ◌+◌, ◌<◌, Bool, ℕ, 
 use Rattle.std.proofs.lemmas.Bool.{lt-ltb}
 use Rattle.solid_model.specs.declared.cell.Axis.TheVariants.{X}
 use Rattle.solid_model.specs.Cells.{cell_at}
-use Rattle.solid_model.specs.Rooms.{Sizes}
+use Rattle.solid_model.specs.WalledBoxes.{Sizes}
 use Rattle.lemmas.proofs.FilledWords.{IsFilledBy, fill_set, fill_clear}
 use Rattle.flood.specs.RowWords.{is_told, row_bit}
 use Rattle.flood.proofs.row_words.row_word.Goals as goal

@@ -1,5 +1,5 @@
 -- A layer that isn't among them yet is put behind them.
-use Rattle.std.proofs.Common.{List, ◌+◌, take, sym, subst}
+use Rattle.std.proofs.Common.{List, take, sym, subst}
 use Rattle.std.proofs.lemmas.Bool.{both_ways}
 use Rattle.std.proofs.lemmas.List.{take_more}
 use Rattle.dxf_entities.specs.declared.layer.Layer.{Layer}

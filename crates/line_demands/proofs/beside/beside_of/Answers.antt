@@ -4,7 +4,7 @@ use Rattle.line_demands.proofs.ColumnPlaces.{line_cell, line_at}
 use Rattle.line_demands.proofs.beside.beside_of.Goals as goal
 use Rattle.line_demands.specs.KeptColumns.{IsColumnOf, column_count}
 use Rattle.solid_model.specs.PerAxis.{numbers_of}
-use Rattle.solid_model.specs.Rooms.{Sizes}
+use Rattle.solid_model.specs.WalledBoxes.{Sizes}
 use Rattle.solid_model.specs.GridBox.{grid_sizes}
 
 pub column_after-requires-clause-cell : goal.column_after-requires-clause-cell

@@ -4,7 +4,7 @@ use Rattle.std.proofs.lemmas.Bool.{cases_lt, false≢true, both_ways}
 use Rattle.line_demands.specs.Excluding.{ExcludesAt}
 use Rattle.solid_model.specs.declared.frame.Frame.{Frame}
 use Rattle.solid_model.specs.GridBox.{grid_sizes}
-use Rattle.solid_model.specs.Rooms.{Sizes}
+use Rattle.solid_model.specs.WalledBoxes.{Sizes}
 use Rattle.line_demands.proofs.excluding.column_excludes.Goals as goal
 
 pub cell_excludes-requires-clause-depth : goal.cell_excludes-requires-clause-depth

@@ -11,7 +11,7 @@ pub returns-then-column_excludes : goal.returns-then-column_excludes
 returns-then-column_excludes c =
     let known = decided_by c.args.partial.now.decisions in
     subst (λ (q : ProblemParts). IsTrue c.column_excludes.result ↔ LineExcludes q known c.args.line c.args.block c.args.value) c.problem-problem.ensures
-    (first_told c.problem-problem.result.now c.grid-grid.ensures.kept known c.seen_at-seen.result (subst (λ (q : ProblemParts). IsSeen q known c.seen_at-seen.result) (sym c.problem-problem.ensures) c.seen_at-seen.ensures.seen)
+    (first_told c.problem-problem.result.now c.known.ensures.blocks known c.seen_at-seen.result (subst (λ (q : ProblemParts). IsSeen q known c.seen_at-seen.result) (sym c.problem-problem.ensures) c.seen_at-seen.ensures.seen)
     c.args.line c.seen_at-seen.ensures.line c.args.block c.args.value c.requires.undecided c.column_excludes.result c.if-column_excludes.true c.column_excludes.ensures)
 
 pub returns-else-column_excludes : goal.returns-else-column_excludes
@@ -19,5 +19,5 @@ returns-else-column_excludes c =
     let known = decided_by c.args.partial.now.decisions in
     let second = c.column_excludes-else-column_excludes in
     subst (λ (q : ProblemParts). IsTrue second.result ↔ LineExcludes q known c.args.line c.args.block c.args.value) c.problem-problem.ensures
-    (second_told c.problem-problem.result.now c.grid-grid.ensures.kept known c.seen_at-seen.result (subst (λ (q : ProblemParts). IsSeen q known c.seen_at-seen.result) (sym c.problem-problem.ensures) c.seen_at-seen.ensures.seen)
+    (second_told c.problem-problem.result.now c.known.ensures.blocks known c.seen_at-seen.result (subst (λ (q : ProblemParts). IsSeen q known c.seen_at-seen.result) (sym c.problem-problem.ensures) c.seen_at-seen.ensures.seen)
     c.args.line c.seen_at-seen.ensures.line c.args.block c.args.value c.requires.undecided c.column_excludes.result second.result c.if-column_excludes.false c.column_excludes.ensures second.ensures)

@@ -10,7 +10,7 @@ use Rattle.line_demands.proofs.gather.add_column.Goals as goal
 use Rattle.solid_model.specs.declared.frame.Frame.{Frame}
 use Rattle.solid_model.specs.Frames.{frame_of}
 use Rattle.solid_model.specs.PerAxis.{numbers_of}
-use Rattle.solid_model.specs.Rooms.{Sizes}
+use Rattle.solid_model.specs.WalledBoxes.{Sizes}
 use Rattle.solid_model.specs.GridBox.{grid_sizes, axis_along, axis_across}
 
 pub place_of_column-place-requires-clause-there : goal.place_of_column-place-requires-clause-there

@@ -18,7 +18,7 @@ loop-number-preserved c =
     record {
       gathered = subst (λ cs. AreGatheredTo c.args.problem.now (n + 1) c.add_column.new.spans cs c.push.new.self.items) (sym c.push_reserved.ensures.items)
           (subst (λ os. AreGatheredTo c.args.problem.now (n + 1) c.add_column.new.spans (c.loop-number.columns.items ++ column ∷ []) os) (sym c.in_ok-push.ensures.items)
-          (columns_more c.args.problem.now c.grid-grid.ensures.kept n c.loop-number.spans c.add_column.new.spans c.loop-number.columns.items column c.loop-number.on.items c.add_column.new.on
+          (columns_more c.args.problem.now c.known.ensures.blocks n c.loop-number.spans c.add_column.new.spans c.loop-number.columns.items column c.loop-number.on.items c.add_column.new.on
           c.loop-number.invariant.gathered c.in_ok-add_column.ensures));
       room = search rules;
     }

@@ -9,7 +9,7 @@ use Rattle.solid_model.specs.declared.frame.View.{View}
 use Rattle.solid_model.specs.Forcing.{place_beside}
 use Rattle.solid_model.specs.Frames.{frame_of}
 use Rattle.solid_model.specs.PerAxis.{numbers_of}
-use Rattle.solid_model.specs.Rooms.{Sizes, is_below}
+use Rattle.solid_model.specs.WalledBoxes.{Sizes, is_below}
 use Rattle.solid_model.specs.GridBox.{grid_sizes, axis_along, axis_across}
 
 pub block_at_depth-requires-clause-sizes : goal.block_at_depth-requires-clause-sizes

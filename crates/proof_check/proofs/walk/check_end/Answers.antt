@@ -1,7 +1,7 @@
 use Rattle.std.proofs.Common.{◌+◌, inl, inr, refl, sym, ◌∙◌, ap, arith, Some}
 use Rattle.text_lines.proofs.FirstLines.{some_lines}
 use Rattle.proof_check.specs.declared.fault.LogKind.TheVariants.{BadLine, BadCount, Long}
-use Rattle.proof_check.specs.Reading.{log_reading}
+use Rattle.proof_check.specs.LogLines.{log_reading}
 use Rattle.proof_check.proofs.LastLines.{wrong_end, right_end}
 use Rattle.proof_check.proofs.walk.check_end.Goals as goal
 

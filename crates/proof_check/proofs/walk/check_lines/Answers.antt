@@ -6,7 +6,7 @@ use Rattle.dxf_groups.specs.TextLines.{text_lines}
 use Rattle.completeness_logs.specs.LogTexts.{most_listed}
 use Rattle.completeness_logs.specs.SplitMarks.{AreSplitMarks, all_to_come}
 use Rattle.completeness_logs.proofs.Listed.{listed_count}
-use Rattle.proof_check.specs.Reading.{log_reading}
+use Rattle.proof_check.specs.LogLines.{log_reading}
 use Rattle.proof_check.specs.Walks.{LogPlace, LeadsTo}
 use Rattle.proof_check.proofs.LineOn.{goes_self, goes_next}
 use Rattle.proof_check.proofs.walk.check_lines.Goals as goal

@@ -3,7 +3,7 @@ use Rattle.dxf_groups.specs.TextLines.{text_lines}
 use Rattle.completeness_logs.specs.Logs.{nothing_known}
 use Rattle.completeness_logs.specs.LogTexts.{most_listed}
 use Rattle.completeness_logs.specs.SplitMarks.{AreSplitMarks, all_to_come}
-use Rattle.proof_check.specs.Reading.{log_reading}
+use Rattle.proof_check.specs.LogLines.{log_reading}
 use Rattle.proof_check.specs.Walks.{LeadsTo}
 use Rattle.proof_check.proofs.walk.check_lines.Given as goal
 

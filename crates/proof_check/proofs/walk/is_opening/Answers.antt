@@ -2,7 +2,7 @@ use Rattle.std.proofs.Common.{◌<◌, ◌^◌, rules, sym, ap, ◌∙◌, refl,
 use Rattle.std.proofs.lemmas.Bool.{false≢true}
 use Rattle.std.proofs.lemmas.Option.{none-some, same_Some}
 use Rattle.completeness_logs.specs.LogTexts.{opening_line}
-use Rattle.proof_check.specs.Reading.{opening_count}
+use Rattle.proof_check.specs.LogLines.{opening_count}
 use Rattle.proof_check.proofs.WholeLogs.{head_read, head_written}
 use Rattle.proof_check.proofs.walk.is_opening.Goals as goal
 

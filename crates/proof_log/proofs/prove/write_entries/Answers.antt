@@ -8,7 +8,7 @@ use Rattle.proof_log.proofs.Begun.{IsBegun, begun_first, begun_next, begun_prefi
 use Rattle.proof_log.proofs.Lighter.{lighter_next}
 use Rattle.solid_model.specs.Blocks.{ProblemParts}
 use Rattle.solid_model.specs.Decisions.{decided_by}
-use Rattle.text_pieces.proofs.WrittenPieces.{nothing_written, written_next, prefix_written, left_over, at_error}
+use Rattle.tv_base.proofs.WrittenPieces.{nothing_written, written_next, prefix_written, left_over, at_error}
 use Rattle.proof_log.proofs.prove.write_entries.Goals as goal
 
 pub loop-open-init : goal.loop-open-init
@@ -68,7 +68,7 @@ pub returns-in_default-clause-err : goal.returns-in_default-clause-err
 returns-in_default-clause-err g c =
     let p = c.args.walk.now.problem in
     let inv = c.loop-open.invariant in
-    let count = subst (λ (q : ProblemParts). q.blocks.count ≤ 65535) c.problem.ensures c.block_count-count.ensures.few in
+    let count = subst (λ (q : ProblemParts). q.blocks.count ≤ 65535) c.problem.ensures c.known.ensures.few in
     begun_prefix p c.requires.grid c.requires.blocks count c.requires.few _ inv.text inv.listed inv.begun (g.K.Sink.held c.args.sink.now) (g.K.Sink.held c.loop-open.sink)
     (left_over (g.K.Sink.held c.args.sink.now) (g.K.Sink.held c.loop-open.sink) inv.text c.loop-open.piece.items inv.written)
 
@@ -76,7 +76,7 @@ pub returns-in_err-write_entry-clause-err : goal.returns-in_err-write_entry-clau
 returns-in_err-write_entry-clause-err g c =
     let p = c.args.walk.now.problem in
     let inv = c.loop-open.invariant in
-    let count = subst (λ (q : ProblemParts). q.blocks.count ≤ 65535) c.problem.ensures c.block_count-count.ensures.few in
+    let count = subst (λ (q : ProblemParts). q.blocks.count ≤ 65535) c.problem.ensures c.known.ensures.few in
     let a = g.K.Sink.held c.args.sink.now in
     let b = g.K.Sink.held c.loop-open.sink in
     let now = g.K.Sink.held c.write_entry.new.sink in
@@ -89,7 +89,7 @@ returns-clause-ok g c =
     let ds = c.loop-open.walk.decisions in
     let ms = c.loop-open.walk.marks in
     let inv = c.loop-open.invariant in
-    let count = subst (λ (q : ProblemParts). q.blocks.count ≤ 65535) c.problem.ensures c.block_count-count.ensures.few in
+    let count = subst (λ (q : ProblemParts). q.blocks.count ≤ 65535) c.problem.ensures c.known.ensures.few in
     let done = subst (λ (b : Bool). IsBegun p (all_to_come b ds ms) inv.text inv.listed) c.loop-open-test.false inv.begun in
     let (choices, log) = counted_log p c.requires.grid c.requires.blocks count c.requires.few inv.text inv.listed c.loop-open.solids done inv.counted in
     (inv.text, choices, log, inv.written)

@@ -4,7 +4,7 @@ use Rattle.completeness_logs.specs.SplitMarks.{all_to_come}
 use Rattle.proof_log.specs.Weights.{weight}
 use Rattle.proof_log.specs.Writing.{Counts}
 use Rattle.proof_log.proofs.Begun.{IsBegun}
-use Rattle.text_pieces.specs.Pieces.{WritesOn}
+use Rattle.tv_base.specs.Pieces.{WritesOn}
 use Rattle.proof_log.proofs.prove.write_entries.Given as goal
 
 abbrev pub invariant-loop-open : goal.invariant-loop-open

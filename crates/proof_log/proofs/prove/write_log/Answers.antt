@@ -5,7 +5,7 @@ use Rattle.completeness_logs.specs.LogTexts.{closing_line}
 use Rattle.proof_log.specs.Lines.{fed}
 use Rattle.proof_log.proofs.Begun.{nothing_of_log}
 use Rattle.solid_model.specs.Blocks.{ProblemParts}
-use Rattle.text_pieces.proofs.WrittenPieces.{written_more, prefix_written, prefix_longer, left_over, at_error}
+use Rattle.tv_base.proofs.WrittenPieces.{written_more, prefix_written, prefix_longer, left_over, at_error}
 use Rattle.tv_base.specs.Pieces.{AppendsPrefix}
 use Rattle.proof_log.proofs.prove.write_log.Goals as goal
 

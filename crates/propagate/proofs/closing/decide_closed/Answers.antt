@@ -26,7 +26,7 @@ settle_from-requires-clause-handled c =
     let p = c.args.partial.now.problem in
     let ds = c.args.partial.now.decisions in
     let d : Decision = record { block = c.args.block; full = c.args.full } in
-    let blocks = subst (λ (q : ProblemParts). IsBlocksOf q.grid q.blocks) c.problem.ensures c.grid-grid.ensures.kept in
+    let blocks = c.known.ensures.blocks in
     subst (λ (v : PartialParts). (l : LineId) → IsTrue (has_line v.problem.grid l) → IsHandled v.problem v.decisions c.decided-from.result l) (sym c.decide.ensures.decided)
     (λ l has. handled_on p blocks ds d c.requires.open c.decided-from.result (omega (arith, c.decided-from.ensures.count)) l (inl (c.requires.calm l has)))
 

@@ -17,4 +17,4 @@ returns-clause-there c =
     let ds = c.args.partial.now.decisions in
     subst (λ (xs : List Decision). (get_or xs c.from.result none).block < c.args.partial.now.problem.blocks.count) (sym c.decisions.ensures)
     (subst (λ n. (get_or ds n none).block < c.args.partial.now.problem.blocks.count) (sym c.from.ensures)
-    (decision_there c.args.partial.now.problem.blocks.count ds c.args.at (get_or ds c.args.at none) c.decided-count.ensures.each (slice_get-get_or ds c.args.at none c.requires)))
+    (decision_there c.args.partial.now.problem.blocks.count ds c.args.at (get_or ds c.args.at none) c.known.ensures.decided (slice_get-get_or ds c.args.at none c.requires)))

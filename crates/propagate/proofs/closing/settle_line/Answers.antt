@@ -18,7 +18,7 @@ pub decide-requires-clause-there : goal.decide-requires-clause-there
 decide-requires-clause-there c =
     let p = c.args.partial.now.problem in
     let d = c.in_ok-decision.decision in
-    (excluded_there p (subst (λ (q : ProblemParts). IsBlocksOf q.grid q.blocks) c.problem.ensures c.grid-grid.ensures.kept) (decided_by c.args.partial.now.decisions) c.seen-seen.result.line d.block (not d.full) c.in_ok-decision.ensures.is).0
+    (excluded_there p c.known.ensures.blocks (decided_by c.args.partial.now.decisions) c.seen-seen.result.line d.block (not d.full) c.in_ok-decision.ensures.is).0
 
 pub decide-requires-clause-open : goal.decide-requires-clause-open
 decide-requires-clause-open c = c.in_ok-decision.ensures.is.0
@@ -54,7 +54,7 @@ returns-clause-done c = λ from e few.
     let ds = c.args.partial.now.decisions in
     let d = c.in_ok-decision.decision in
     let is = c.in_ok-decision.ensures.is in
-    let blocks = subst (λ (q : ProblemParts). IsBlocksOf q.grid q.blocks) c.problem.ensures c.grid-grid.ensures.kept in
+    let blocks = c.known.ensures.blocks in
     let there = excluded_there p blocks (decided_by ds) c.seen-seen.result.line d.block (not d.full) is in
     subst (λ now. IsHandled p now from (get_or (lines_of p.grid) c.args.number e)) (sym (ap (λ (v : PartialParts). v.decisions) c.decide.ensures.decided))
     (subst (λ (l : LineId). IsHandled p (ds ++ d ∷ []) from l) (c.seen-seen.ensures.line e) (inr (awaits_new p blocks ds d is.0 from few c.seen-seen.result.line there.1)))
@@ -64,5 +64,5 @@ returns-clause-kept c = λ from few l h.
     let p = c.args.partial.now.problem in
     let ds = c.args.partial.now.decisions in
     let d = c.in_ok-decision.decision in
-    let blocks = subst (λ (q : ProblemParts). IsBlocksOf q.grid q.blocks) c.problem.ensures c.grid-grid.ensures.kept in
+    let blocks = c.known.ensures.blocks in
     subst (λ now. IsHandled p now from l) (sym (ap (λ (v : PartialParts). v.decisions) c.decide.ensures.decided)) (handled_on p blocks ds d c.in_ok-decision.ensures.is.0 from few l h)

@@ -18,12 +18,12 @@ pub returns-then-doubts-eq0-clause-done : goal.returns-then-doubts-eq0-clause-do
 returns-then-doubts-eq0-clause-done c = λ _ m has h.
     let p = c.args.partial.now.problem in
     let old = c.args.partial.now.decisions in
-    let blocks = subst (λ (q : ProblemParts). IsBlocksOf q.grid q.blocks) c.problem.ensures c.grid-grid.ensures.kept in
+    let blocks = c.known.ensures.blocks in
     let (d, there, is) = c.decided_block-block.ensures.decision in
     elim (handled_past p old c.args.at d there m has h) as (λ _. IsHandled p old (c.args.at + 1) m) [
       | inl handled ↦ handled
       | inr touched ↦ (let (k, within, at) = member-place (lines_touching p d.block) m touched in
-          free_handled p blocks m old c.decided-count.ensures.each c.requires.met c.args.at d.block c.doubts-doubts.result k c.requires.at (d, there, refl) c.doubts-doubts.ensures
+          free_handled p blocks m old c.known.ensures.decided c.requires.met c.args.at d.block c.doubts-doubts.result k c.requires.at (d, there, refl) c.doubts-doubts.ensures
           (slice_get-get_or (lines_touching p d.block) k m within ∙ ap Some (at m)) (none_set c.doubts-doubts.result c.if-doubts-eq0.true (k % 64)))
     ]
 
@@ -31,13 +31,13 @@ pub loop-place-init : goal.loop-place-init
 loop-place-init c =
     let p = c.args.partial.now.problem in
     let old = c.args.partial.now.decisions in
-    let blocks = subst (λ (q : ProblemParts). IsBlocksOf q.grid q.blocks) c.problem.ensures c.grid-grid.ensures.kept in
+    let blocks = c.known.ensures.blocks in
     let (d, there, is) = c.decided_block-block.ensures.decision in record {
       problem = refl;
       grows = grows_self p old;
       met = c.requires.met;
       end = c.touching-place-end.ensures;
-      free = λ k m at off. free_handled p blocks m old c.decided-count.ensures.each c.requires.met c.args.at c.decided_block-block.result c.doubts-doubts.result k c.requires.at
+      free = λ k m at off. free_handled p blocks m old c.known.ensures.decided c.requires.met c.args.at c.decided_block-block.result c.doubts-doubts.result k c.requires.at
           c.decided_block-block.ensures.decision c.doubts-doubts.ensures at off;
       left = λ m has h. subst (λ b. IsHandled p old (c.args.at + 1) m ⊎ Member (lines_touching p b) m) is (handled_past p old c.args.at d there m has h);
     }

@@ -33,7 +33,7 @@ returns-then-after-before-eq0 c =
     let p = c.args.partial.now.problem in
     let known = decided_by c.args.partial.now.decisions in
     let s = c.args.seen in
-    let blocks = subst (λ (q : ProblemParts). IsBlocksOf q.grid q.blocks) c.problem-problem.ensures c.grid-grid.ensures.kept in
+    let blocks = c.known.ensures.blocks in
     let none = none_of_either c.doubted-after.result c.doubted-before.result c.if-after-before-eq0.true in
     line_told p blocks known s c.requires.seen None None
     (among_told p blocks known s c.requires.seen true c.doubted-after.result None c.doubted-after.ensures (λ b v (k, set, _). both_ways (is_set c.doubted-after.result k) (none k).0 set))
@@ -47,7 +47,7 @@ forced_among-requires-clause-inside c = λ k set.
     let p = c.args.partial.now.problem in
     let s = c.args.seen in
     subst (λ (q : ProblemParts). k < grid_sizes q.grid (frame_of s.line.view).away.axis) (sym c.problem-problem.ensures)
-    (open_inside p (subst (λ (q : ProblemParts). IsBlocksOf q.grid q.blocks) c.problem-problem.ensures c.grid-grid.ensures.kept) (decided_by c.args.partial.now.decisions) s c.requires.seen true k
+    (open_inside p c.known.ensures.blocks (decided_by c.args.partial.now.decisions) s c.requires.seen true k
     (c.doubted-after.ensures.undecided k set))
 
 pub forced_among-requires-2-clause-line : goal.forced_among-requires-2-clause-line
@@ -58,7 +58,7 @@ forced_among-requires-2-clause-inside c = λ k set.
     let p = c.args.partial.now.problem in
     let s = c.args.seen in
     subst (λ (q : ProblemParts). k < grid_sizes q.grid (frame_of s.line.view).away.axis) (sym c.problem-problem.ensures)
-    (open_inside p (subst (λ (q : ProblemParts). IsBlocksOf q.grid q.blocks) c.problem-problem.ensures c.grid-grid.ensures.kept) (decided_by c.args.partial.now.decisions) s c.requires.seen false k
+    (open_inside p c.known.ensures.blocks (decided_by c.args.partial.now.decisions) s c.requires.seen false k
     (c.doubted-before.ensures.undecided k set))
 
 pub returns : goal.returns
@@ -66,7 +66,7 @@ returns c =
     let p = c.args.partial.now.problem in
     let known = decided_by c.args.partial.now.decisions in
     let s = c.args.seen in
-    let blocks = subst (λ (q : ProblemParts). IsBlocksOf q.grid q.blocks) c.problem-problem.ensures c.grid-grid.ensures.kept in
+    let blocks = c.known.ensures.blocks in
     subst (TellsLeast (ExcludesOpen p known s.line)) (sym c.lesser.ensures)
     (line_told p blocks known s c.requires.seen c.forced_among.result c.forced_among-2.result
     (among_told p blocks known s c.requires.seen true c.doubted-after.result c.forced_among.result c.doubted-after.ensures

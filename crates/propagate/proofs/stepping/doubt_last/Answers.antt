@@ -23,7 +23,7 @@ returns c =
     let here : at ≡ length before = omega (arith, c.decided-count.ensures.count, count, longer) in
     let whole : take (at + 1) ds ≡ ds = take_all (at + 1) ds (omega (arith, here, count, longer)) in
     let there : slice_get ds at ≡ Some last = ap (λ xs. slice_get xs at) are ∙ ap (slice_get (before ++ last ∷ [])) here ∙ at_push before last in
-    let blocks = subst (λ (q : ProblemParts). IsBlocksOf q.grid q.blocks) c.problem.ensures c.grid-grid.ensures.kept in
+    let blocks = c.known.ensures.blocks in
     let told = c.doubt_touching.ensures in
     let new = c.doubt_touching.new.doubted in
     subst (λ xs. AreDoubted p xs new) (sym are)

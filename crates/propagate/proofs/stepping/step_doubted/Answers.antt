@@ -62,7 +62,7 @@ decide-requires-clause-there c =
     let same = c.loop-number.invariant.same in
     let q = c.loop-number.partial.problem in
     let d = c.in-Some-forced_by_line.decision in
-    let blocks = subst (λ (v : PartialParts). IsBlocksOf v.problem.grid v.problem.blocks) (sym same) (subst (λ (r : ProblemParts). IsBlocksOf r.grid r.blocks) c.problem.ensures c.grid-grid.ensures.kept) in
+    let blocks = subst (λ (v : PartialParts). IsBlocksOf v.problem.grid v.problem.blocks) (sym same) c.known.ensures.blocks in
     (excluded_there q blocks (decided_by c.loop-number.partial.decisions) c.seen-asked.result.line d.block (not d.full) c.in-Some-forced_by_line.ensures.is).0
 
 pub doubt_last-requires : goal.doubt_last-requires

@@ -1,7 +1,7 @@
 -- Those are kept that fit what is sought.
 use Rattle.std.proofs.Common.{◌≡◌, ◌∙◌, ap, length, subst}
 use Rattle.std.proofs.lemmas.Result.{IfOk-weaker}
-use Rattle.choice_sieves.specs.Those.{AreThose}
+use Rattle.page_calls.specs.Those.{AreThose}
 use Rattle.report.specs.Texts.{fitting_text}
 use Rattle.six_views.specs.Further.{FitsChoice, SieveParts}
 use Rattle.recon_run.proofs.check.fitting_part.Goals as goal

@@ -2,8 +2,8 @@
 use Rattle.std.proofs.Common.{◌↔◌, ◌∙◌, ℕ, List, [], Option, Some, Err, true, ap, subst, subst₂, sym}
 use Rattle.std.specs.Arc.{arc_value}
 use Rattle.std.specs.Io.KnownBytes.{Appends}
-use Rattle.choice_sieves.specs.Those.{AreThose}
-use Rattle.choice_sieves.proofs.Those.{those_alike}
+use Rattle.page_calls.specs.Those.{AreThose}
+use Rattle.page_calls.proofs.Those.{those_alike}
 use Rattle.replies.specs.declared.status.Failure.{Failure}
 use Rattle.recon_run.specs.Pages.{BeginsPages, TellsPages}
 use Rattle.recon_run.specs.Searched.{IsSearchOf, TellsSearch, run_failure}
@@ -14,7 +14,6 @@ use Rattle.page_calls.specs.Pages.{HasAllPaged, HasPaged}
 use Rattle.sink_pages.specs.Gained.{PagesState}
 use Rattle.six_views.specs.Further.{FitsChoice, SieveParts}
 use Rattle.solid_model.specs.Blocks.{ProblemParts}
-use Rattle.solid_model.specs.Panels.{GridParts, IsGrid}
 use Rattle.tv_base.specs.Faults.{Rose}
 use Rattle.recon_run.proofs.telling.told_from.Goals as goal
 
@@ -46,8 +45,7 @@ returns-in-Ok-found-clause-ends g c =
     let paged : HasAllPaged p (Some []) (Some pages.calls) all.ended.solids = subst (λ (q : ProblemParts). HasAllPaged q (Some []) (Some pages.calls) all.ended.solids) c.in-Ok.ensures.ok
     (subst (λ (before : PagesState). HasAllPaged (arc_value c.in-Ok.problem) (Some before.calls) (Some pages.calls) all.ended.solids) c.begin-pages.ensures c.in-Ok-found.ensures.paged) in
     let some = all_paged p limits (Some []) (Some pages.calls) all.ended.kind all.ended.opened all.ended.solids search.1 paged in
-    let grid : IsGrid p.grid = subst (λ (g : GridParts). IsGrid g) c.grid.ensures.grid c.coordinates-coordinates.ensures.kept in
-    let ends = failed_ends sought limits c.grid.ensures.kept grid c.asks-asks.ensures.runs g.B.Begun.fits c.requires.fits g.B.Begun.held pages.held refused pages.calls
+    let ends = failed_ends sought limits c.known.ensures.blocks c.known.ensures.grid c.asks-asks.ensures.runs g.B.Begun.fits c.requires.fits g.B.Begun.held pages.held refused pages.calls
     number total (Rose first last) kept some run_fault.Memory (λ is. cc) in
     subst (λ (now : Option (List ℕ)). EndsWriting (TellsSearch limits sought (TellsPages true)) (TellsSearch limits sought (BeginsPages true)) g.B.Begun.held now
     (Rose first last) (Err (run_failure run_fault.Memory))) (sym c.into_sink-sink.ensures.held) ends
@@ -59,8 +57,7 @@ returns-clause-ends g c =
     let first = g.K.Sink.faults c.args.sink in let last = g.K.Sink.faults c.into_sink-sink.result in
     let paged : HasPaged p limits.solids (Some []) (Some pages.calls) = subst (λ (q : ProblemParts). HasPaged q limits.solids (Some []) (Some pages.calls)) c.in-Ok.ensures.ok
     (subst (λ (before : PagesState). HasPaged (arc_value c.in-Ok.problem) limits.solids (Some before.calls) (Some pages.calls)) c.begin-pages.ensures c.in-Err.ensures.paged) in
-    let grid : IsGrid p.grid = subst (λ (g : GridParts). IsGrid g) c.grid.ensures.grid c.coordinates-coordinates.ensures.kept in
-    let ends = failed_ends sought limits c.grid.ensures.kept grid c.asks-asks.ensures.runs g.B.Begun.fits c.requires.fits g.B.Begun.held pages.held refused pages.calls
+    let ends = failed_ends sought limits c.known.ensures.blocks c.known.ensures.grid c.asks-asks.ensures.runs g.B.Begun.fits c.requires.fits g.B.Begun.held pages.held refused pages.calls
     number total (Rose first last) kept paged c.in-Err.fault
     (λ is. subst₂ (λ (a b : ℕ). Rose a b) (ap (λ (before : PagesState). before.faults) c.begin-pages.ensures) (sym c.into_sink-sink.ensures.faults)
     (c.in-Err.ensures.faults.1 (ap Err is))) in

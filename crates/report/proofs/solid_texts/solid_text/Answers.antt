@@ -18,6 +18,6 @@ IsText number choice text decimals p = (faces : List FaceParts)
 
 pub returns : goal.returns
 returns c =
-    let is = IsText c.args.number c.args.choice.now c.tell.new.room.text.items in
+    let is = IsText c.args.number c.args.choice.now c.tell.new.buffers.text.items in
     subst (is c.args.decimals) c.in_ok-texts.ensures.0
     (subst (λ (d : ℕ). is d c.in_ok-texts.texts.problem) c.in_ok-texts.ensures.1 c.in_ok-tell.ensures.text)

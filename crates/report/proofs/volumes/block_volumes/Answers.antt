@@ -5,7 +5,7 @@ use Rattle.solid_model.specs.Choices.{is_chosen, cells_of_choice}
 use Rattle.solid_model.specs.GridBox.{grid_sizes}
 use Rattle.solid_model.specs.Panels.{GridParts, coordinates_of}
 use Rattle.solid_model.specs.PerAxis.{numbers_of, cell_of}
-use Rattle.solid_model.specs.Rooms.{is_within, box_place, box_count}
+use Rattle.solid_model.specs.WalledBoxes.{is_within, box_place, box_count}
 use Rattle.solid_model.specs.Volumes.{grid_cell_volume, grid_cell_at, volume_below}
 use Rattle.solid_model.proofs.SmallVolumes.{count_small, volume_at_place}
 use Rattle.report.specs.Volumes.{chosen_sum}

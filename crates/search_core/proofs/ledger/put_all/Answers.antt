@@ -21,5 +21,5 @@ loop-place-preserved c =
           let once : count_of c.put.new.self.counts k ≡ count_of c.loop-place.frontier.counts k + times_listed k (get_or rest at 0 ∷ []) = c.put.ensures.counts k ∙ counted_once_more k (get_or rest at 0) (count_of c.loop-place.frontier.counts k) in
           omega (arith, i.counts k));
       places = c.put.ensures.places ∙ i.places;
-      room = c.put.ensures.room ∙ i.room;
+      capacity = c.put.ensures.capacity ∙ i.capacity;
     }

@@ -10,5 +10,5 @@ invariant-loop-place l = record {
   ahead : l.frontier.ahead ≡ l.initial.frontier.ahead ++ take l.place-index l.rest;
   counts : (k : ℕ) → count_of l.frontier.counts k ≡ count_of l.initial.frontier.counts k + times_listed k (take l.place-index l.rest);
   places : length l.frontier.counts ≡ length l.initial.frontier.counts;
-  room : l.frontier.room ≡ l.initial.frontier.room;
+  capacity : l.frontier.capacity ≡ l.initial.frontier.capacity;
 }

@@ -14,7 +14,7 @@ on_ok (Ok x) f a = f a
 on_ok (Err e) f a = a
 
 pub unreachable-requires : goal.unreachable-requires
-unreachable-requires c = piece_waits c.args.desk.now c.end-end.ensures.kept c.requires.going c.in_default.ensures.piece
+unreachable-requires c = piece_waits c.args.desk.now c.known.ensures c.requires.going c.in_default.ensures.piece
 
 pub unreachable-requires-in_default-2 : goal.unreachable-requires-in_default-2
 unreachable-requires-in_default-2 c =
@@ -22,12 +22,12 @@ unreachable-requires-in_default-2 c =
     let piece = c.in-Some.piece.now in
     let dead = MatchOption-at_none _ _ c.in_default-2.is c.in_ok-expansion.ensures.live in
     both_ways (is_live p piece) (ap (λ q. is_live q piece) (sym c.problem.ensures.problem) ∙ dead)
-    (piece_lives c.args.desk.now c.end-end.ensures.kept piece c.in-Some.ensures.piece.stands)
+    (piece_lives c.args.desk.now c.known.ensures piece c.in-Some.ensures.piece.stands)
 
 pub returns-in-Ok-Taken-clause-opened : goal.returns-in-Ok-Taken-clause-opened
 returns-in-Ok-Taken-clause-opened c =
     let before = c.args.desk.now in
     let after = c.report.new.self in
     let answer = subst (IsReported before c.in-Some-2.expansion after) c.in-Ok-Taken.field-0-is c.in-Ok-Taken.ensures.answer in
-    let opens = report_opens before after c.in-Some-2.expansion c.end-end.ensures.kept c.report.ensures.kept answer.1 in
+    let opens = report_opens before after c.in-Some-2.expansion c.known.ensures c.report.ensures.kept answer.1 in
     on_ok c.go_deep.result (λ (on : DeskGoesOn after c.go_deep.new.desk). omega (arith, opens, on.opened)) c.go_deep.ensures.goes_on

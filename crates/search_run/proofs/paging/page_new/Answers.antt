@@ -1,7 +1,7 @@
 -- The next page is a part of what is published, behind what was handed out.
 use Rattle.std.proofs.Common.{◌≤◌, ◌-◌, [], length, sym, ap, subst, rules}
 use Rattle.std.specs.Arc.{arc_value}
-use Rattle.search_run.specs.Reading.{IsReadUpTo}
+use Rattle.search_run.specs.HandedOut.{IsReadUpTo}
 use Rattle.search_end.proofs.PageCalls.{paged}
 use Rattle.search_run.proofs.ReadPages.{read_solutions, read_on, within_room}
 use Rattle.search_run.proofs.paging.page_new.Goals as goal

@@ -2,7 +2,7 @@
 use Rattle.std.proofs.Common.{◌≤◌, length}
 use Rattle.std.specs.Arc.{arc_value}
 use Rattle.search_end.specs.Handed.{HandsOn}
-use Rattle.search_run.specs.Reading.{IsReadUpTo}
+use Rattle.search_run.specs.HandedOut.{IsReadUpTo}
 use Rattle.search_run.proofs.paging.page_on.Given as goal
 
 abbrev pub invariant-loop : goal.invariant-loop

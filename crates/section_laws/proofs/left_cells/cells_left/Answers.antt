@@ -1,22 +1,54 @@
--- Either kind.
-use Rattle.std.proofs.Common.{Bool, w64, SFits, rules, IfOk, MatchOption, sym, subst}
+-- What the first gap behind the plane holds, or nothing.
+use Rattle.std.proofs.Common.{List, ℤ, w64, SFits, rules, IsTrue, refl, sym, subst, arith}
+use Rattle.std.proofs.lemmas.Bool.{both_ways}
 use Rattle.std.proofs.lemmas.Int.{to_z-of_z}
 use Rattle.solid_model.specs.Panels.{coordinates_of}
-use Rattle.section_laws.specs.LeftCells.{DrawsWhatIsLeft, LeavesNothing}
+use Rattle.section_laws.specs.CutGaps.{ReachesPlane}
+use Rattle.section_laws.proofs.LeftCells.{first_in, none_in, nothing_left, kept_draw, none_kept}
 use Rattle.section_laws.proofs.left_cells.cells_left.Goals as goal
 
-pub returns-then-area : goal.returns-then-area
-returns-then-area c =
+pub returns-in_default : goal.returns-in_default
+returns-in_default c =
     let plane : SFits w64 c.args.plane = search rules in
-    let told = rw (to_z-of_z w64 c.args.plane plane) at c.area_cells.ensures in
-    subst (λ (area : Bool). IfOk c.area_cells.result (λ left. MatchOption left
-    (LeavesNothing c.args.frame (coordinates_of c.args.grid.now) c.args.cells.now c.args.plane area)
-    (λ kept. DrawsWhatIsLeft c.args.frame (coordinates_of c.args.grid.now) c.args.cells.now c.args.plane area kept.items))) (sym c.if-area.true) told
+    let same = to_z-of_z w64 c.args.plane plane in
+    let none = rw (same) at (c.first_gap.ensures.none c.in_default.is) in
+    nothing_left c.args.frame c.requires (coordinates_of c.args.grid.now) (λ a. (c.coordinates-coordinates.ensures.kept.2.coordinates a).ordered) c.args.cells.now c.args.plane
+    (none_in c.args.frame.away.forward _ _ c.args.plane c.coordinates-coordinates.ensures.same none) c.args.area
 
-pub returns-else-area : goal.returns-else-area
-returns-else-area c =
+pub holds_left-requires : goal.holds_left-requires
+holds_left-requires c =
     let plane : SFits w64 c.args.plane = search rules in
-    let told = rw (to_z-of_z w64 c.args.plane plane) at c.rest_cells.ensures in
-    subst (λ (area : Bool). IfOk c.rest_cells.result (λ left. MatchOption left
-    (LeavesNothing c.args.frame (coordinates_of c.args.grid.now) c.args.cells.now c.args.plane area)
-    (λ kept. DrawsWhatIsLeft c.args.frame (coordinates_of c.args.grid.now) c.args.cells.now c.args.plane area kept.items))) (sym c.if-area.false) told
+    let same = to_z-of_z w64 c.args.plane plane in
+    let some = rw (same) at c.first_gap.ensures.some in
+    (first_in c.args.frame.away.forward _ _ c.args.plane _ c.in-Some.gap refl c.in-Some.is some).within
+
+pub returns-then-not-holds_left : goal.returns-then-not-holds_left
+returns-then-not-holds_left c =
+    let plane : SFits w64 c.args.plane = search rules in
+    let same = to_z-of_z w64 c.args.plane plane in
+    let some = rw (same) at c.first_gap.ensures.some in
+    let first = first_in c.args.frame.away.forward _ _ c.args.plane _ c.in-Some.gap c.coordinates-coordinates.ensures.same c.in-Some.is some in
+    let told = rw (same) at c.holds_left.ensures in
+    none_kept c.args.frame c.requires (coordinates_of c.args.grid.now) (λ a. (c.coordinates-coordinates.ensures.kept.2.coordinates a).ordered) c.args.cells.now c.args.plane
+    c.in-Some.gap first c.args.area (λ near. both_ways c.holds_left.result c.if-not-holds_left.true
+    (told.1 (subst (λ (zs : List ℤ). IsTrue c.args.area → ReachesPlane c.args.frame.away.forward zs c.args.plane c.in-Some.gap) (sym c.coordinates-coordinates.ensures.same) near)))
+
+pub kept_cells-requires : goal.kept_cells-requires
+kept_cells-requires c =
+    let plane : SFits w64 c.args.plane = search rules in
+    let same = to_z-of_z w64 c.args.plane plane in
+    let some = rw (same) at c.first_gap.ensures.some in
+    let first = first_in c.args.frame.away.forward _ _ c.args.plane _ c.in-Some.gap c.coordinates-coordinates.ensures.same c.in-Some.is some in
+    let few = c.coordinates-coordinates.ensures.kept.2.few c.args.frame.away.axis in
+    omega (arith, first.within)
+
+pub returns : goal.returns
+returns c =
+    let plane : SFits w64 c.args.plane = search rules in
+    let same = to_z-of_z w64 c.args.plane plane in
+    let some = rw (same) at c.first_gap.ensures.some in
+    let first = first_in c.args.frame.away.forward _ _ c.args.plane _ c.in-Some.gap c.coordinates-coordinates.ensures.same c.in-Some.is some in
+    let told = rw (same) at c.holds_left.ensures in
+    kept_draw c.args.frame c.requires (coordinates_of c.args.grid.now) (λ a. (c.coordinates-coordinates.ensures.kept.2.coordinates a).ordered) c.args.cells.now c.args.plane
+    c.in-Some.gap first c.args.area (subst (λ (zs : List ℤ). IsTrue c.args.area → ReachesPlane c.args.frame.away.forward zs c.args.plane c.in-Some.gap)
+    c.coordinates-coordinates.ensures.same (told.0 c.if-not-holds_left.false)) c.in_ok-kept.kept.items c.in_ok-kept.ensures

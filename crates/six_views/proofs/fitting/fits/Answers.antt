@@ -1,16 +1,17 @@
--- Each view that is asked for is shown.
-use Rattle.std.proofs.Common.{◌≡◌, ◌↔◌, Bool, false, List, IsTrue, sym, subst, ◌∙◌}
+-- One that isn't shown is asked for, and in the end all are shown.
+use Rattle.std.proofs.Common.{◌≡◌, ◌+◌, ◌≤◌, Bool, List, [], ◌∷◌, ◌++◌, length, take, refl, ap, sym, subst, ◌∙◌}
 use Rattle.std.proofs.lemmas.Bool.{false≢true, both_ways}
-use Rattle.std.proofs.lemmas.Result.{IfOk-weaker}
+use Rattle.std.proofs.lemmas.List.{take_all, take_more}
+use Rattle.lemmas.specs.Lists.{Member}
+use Rattle.lemmas.proofs.ListPlaces.{member-at}
+use Rattle.lemmas.proofs.Lists.{each-at, each-push}
 use Rattle.solid_model.specs.declared.cell.Cell.{Cell}
 use Rattle.solid_model.specs.Cells.{is_full}
 use Rattle.solid_model.specs.Grid.{IsUnionOf}
 use Rattle.solid_model.specs.Panels.{GridParts, coordinates_of}
-use Rattle.dxf_entities.specs.declared.extra.Extra.TheVariants.{Left, Rear, Bottom}
-use Rattle.further_views.specs.Further.{FurtherParts, further_runs}
-use Rattle.six_views.specs.Further.{FitsRuns}
+use Rattle.further_views.specs.Further.{AskedRuns}
+use Rattle.six_views.specs.Further.{FitsRuns, ShowsAsked}
 use Rattle.six_views.proofs.fitting.fits.Goals as goal
-use Rattle.six_views.proofs.FitsDecided.{all_shown}
 
 -- a union of the cells of a grid is one of equal cells of an equal grid
 same_union : (g h : GridParts) (chosen cells : List Bool) (s : List Cell) → h ≡ g → cells ≡ chosen → IsUnionOf (coordinates_of g) chosen (is_full s)
@@ -22,25 +23,30 @@ same_union g h chosen cells s same_grid same union =
 pub returns-then-not-branch : goal.returns-then-not-branch
 returns-then-not-branch c = λ s union.
     let here = same_union _ _ _ _ s c.grid-grid.ensures.grid (c.deref.ensures.value ∙ c.in_ok-cells.ensures) union in
-    subst (λ (p : FurtherParts). IsTrue false ↔ FitsRuns (further_runs p) s) c.further.view_is (
+    let v = c.view-item.result in
+    let items = c.as_slice-view-items.result.now in
+    let among = subst (λ (es : List AskedRuns). Member es v) c.as_slice-view-items.ensures
+    (subst (Member items) (sym c.view-item.is) (member-at items c.loop-view.view-index v c.loop-view-test.true)) in (
       (λ f. absurd (false≢true f)),
-      (λ fits. absurd (both_ways c.in_ok-shows_asked.field-0 c.if-not-branch.true ((c.in_ok-shows_asked.ensures s here).1 (fits Left)))),
+      (λ fits. absurd (both_ways c.in_ok-shows.field-0 c.if-not-branch.true
+          ((c.in_ok-shows.ensures s here).1 (subst (ShowsAsked s) (sym c.view.view_is) (each-at (ShowsAsked s) c.args.further.now v fits among))))),
     )
 
-pub returns-then-not-branch-2 : goal.returns-then-not-branch-2
-returns-then-not-branch-2 c = λ s union.
-    let here = same_union _ _ _ _ s c.grid-grid.ensures.grid (c.deref-2.ensures.value ∙ c.in_ok-cells.ensures) union in
-    subst (λ (p : FurtherParts). IsTrue false ↔ FitsRuns (further_runs p) s) c.further.view_is (
-      (λ f. absurd (false≢true f)),
-      (λ fits. absurd (both_ways c.in_ok-shows_asked-2.field-0 c.if-not-branch-2.true ((c.in_ok-shows_asked-2.ensures s here).1 (fits Rear)))),
-    )
+pub loop-view-preserved : goal.loop-view-preserved
+loop-view-preserved c = λ s union.
+    let here = same_union _ _ _ _ s c.grid-grid.ensures.grid (c.deref.ensures.value ∙ c.in_ok-cells.ensures) union in
+    let i = c.loop-view.view-index in
+    let v = c.view-item.result in
+    let items = c.as_slice-view-items.result.now in
+    let e = c.args.further.now in
+    let more = subst (λ (es : List AskedRuns). take (i + 1) es ≡ take i es ++ v ∷ []) c.as_slice-view-items.ensures
+    (take_more items i v c.loop-view-test.true ∙ ap (λ (u : AskedRuns). take i items ++ u ∷ []) (sym c.view-item.is)) in
+    let shown = subst (ShowsAsked s) c.view.view_is ((c.in_ok-shows.ensures s here).0 c.if-not-branch.false) in
+    subst (λ (es : List AskedRuns). FitsRuns es s) (sym more) (each-push (ShowsAsked s) (take i e) v (c.loop-view.invariant s union) shown)
 
 pub returns : goal.returns
-returns c = IfOk-weaker c.shows_asked-3.result _ _ (λ yes told s union.
-    let first = same_union _ _ _ _ s c.grid-grid.ensures.grid (c.deref.ensures.value ∙ c.in_ok-cells.ensures) union in
-    let second = same_union _ _ _ _ s c.grid-grid.ensures.grid (c.deref-2.ensures.value ∙ c.in_ok-cells.ensures) union in
-    let third = same_union _ _ _ _ s c.grid-grid.ensures.grid (c.deref-3.ensures.value ∙ c.in_ok-cells.ensures) union in
-    subst (λ (p : FurtherParts). IsTrue yes ↔ FitsRuns (further_runs p) s) c.further.view_is (
-      (λ y. all_shown _ s ((c.in_ok-shows_asked.ensures s first).0 c.if-not-branch.false) ((c.in_ok-shows_asked-2.ensures s second).0 c.if-not-branch-2.false) ((told s third).0 y)),
-      (λ fits. (told s third).1 (fits Bottom)),
-    )) c.shows_asked-3.ensures
+returns c = λ s union.
+    let e = c.args.further.now in
+    let i = c.loop-view.view-index in
+    let all = take_all i e (subst (λ (es : List AskedRuns). length es ≤ i) c.as_slice-view-items.ensures c.loop-view-test.false) in
+    ((λ f. subst (λ (es : List AskedRuns). FitsRuns es s) all (c.loop-view.invariant s union)), (λ fits. refl))

@@ -4,7 +4,7 @@ use Rattle.solid_model.specs.Choices.{cells_of_choice}
 use Rattle.solid_model.specs.Grid.{Coordinates}
 use Rattle.solid_model.specs.Panels.{coordinates_of}
 use Rattle.solid_model.specs.PerAxis.{numbers_of, cell_of}
-use Rattle.solid_model.specs.Rooms.{is_within, box_count}
+use Rattle.solid_model.specs.WalledBoxes.{is_within, box_count}
 use Rattle.solid_model.proofs.SmallVolumes.{IsVolumeBelow, count_small, volume_at_place, with_chosen, without_chosen}
 use Rattle.solid_model.proofs.volume.chosen_volume.Goals as goal
 use Rattle.solid_model.proofs.volume.chosen_volume.Goals.{then-is_filled, else-is_filled}

@@ -26,18 +26,18 @@ meet_all-requires-clause-seats c =
     let less = few stealers c.requires.few in
     subst (λ seats. Each (λ (s : SeatState). 1 < s.owner.parts) (map state_of seats)) (sym c.as_mut_slice.ensures.value)
     (subst (Each (λ (s : SeatState). 1 < s.owner.parts)) (sym c.requires.seats)
-    (each-weaker (λ (s : SeatState). s.owner.parts + length deques ≡ 65) (λ (s : SeatState). 1 < s.owner.parts) (new_seats c.args.room deques) (λ s p. omega (arith, p, less)) (parts-seats c.args.room deques (omega (arith, less)))))
+    (each-weaker (λ (s : SeatState). s.owner.parts + length deques ≡ 65) (λ (s : SeatState). 1 < s.owner.parts) (new_seats c.args.capacity deques) (λ s p. omega (arith, p, less)) (parts-seats c.args.capacity deques (omega (arith, less)))))
 
 pub meet_all-requires-clause-owner : goal.meet_all-requires-clause-owner
 meet_all-requires-clause-owner c =
     let stealers = c.args.stealers.now.items in
     let seats = ap length c.as_mut_slice.ensures.value in
     let deques = ap length c.requires.seats in
-    omega (arith, seats, deques, few stealers c.requires.few, length-map c.args.seats.now.items state_of, length-seats c.args.room (map stealer_deque stealers), c.in_ok-owner.ensures.1)
+    omega (arith, seats, deques, few stealers c.requires.few, length-map c.args.seats.now.items state_of, length-seats c.args.capacity (map stealer_deque stealers), c.in_ok-owner.ensures.1)
 
 pub returns-clause-seats : goal.returns-clause-seats
 returns-clause-seats c =
-    let room = c.args.room in
+    let capacity = c.args.capacity in
     let stealers = c.args.stealers.now.items in
     let deques = map stealer_deque stealers in
     let owner = c.in_ok-owner.owner in
@@ -45,9 +45,9 @@ returns-clause-seats c =
     let seats = c.meet_all.new.seats in
     let met = c.in_ok-thieves.ensures in
     let whole = take_at seats (drop (length seats) c.args.seats.now.items) c.args.seats.now.len (c.meet_all.auto.seats ∙ c.as_mut_slice.ensures.len) in
-    let same : map state_of slice ≡ new_seats room deques = ap (map state_of) c.as_mut_slice.ensures.value ∙ c.requires.seats in
-    let count : length slice ≡ length deques = let e = ap length same in omega (arith, e, length-map slice state_of, length-seats room deques) in
+    let same : map state_of slice ≡ new_seats capacity deques = ap (map state_of) c.as_mut_slice.ensures.value ∙ c.requires.seats in
+    let count : length slice ≡ length deques = let e = ap length same in omega (arith, e, length-map slice state_of, length-seats capacity deques) in
     ap (map state_of) c.in_ok-push-2.ensures.items ∙ map-snoc state_of _ (record { owner = c.meet_all.new.owner; thieves = c.in_ok-thieves.thieves })
     ∙ ap (λ ss. ss ++ record { owner = c.meet_all.new.owner; thieves = c.in_ok-thieves.thieves.items } ∷ []) (ap (map state_of) whole ∙ met.seats)
-    ∙ added room (length slice) deques owner (stealer_deque c.in_ok-stealer.stealer) (map state_of slice) c.meet_all.new.owner c.in_ok-thieves.thieves.items same c.in_ok-owner.ensures count met.owner met.thieves c.in_ok-stealer.ensures
-    ∙ ap (new_seats room) (sym (ap (map stealer_deque) c.in_ok-push.ensures.items ∙ map-snoc stealer_deque stealers c.in_ok-stealer.stealer))
+    ∙ added capacity (length slice) deques owner (stealer_deque c.in_ok-stealer.stealer) (map state_of slice) c.meet_all.new.owner c.in_ok-thieves.thieves.items same c.in_ok-owner.ensures count met.owner met.thieves c.in_ok-stealer.ensures
+    ∙ ap (new_seats capacity) (sym (ap (map stealer_deque) c.in_ok-push.ensures.items ∙ map-snoc stealer_deque stealers c.in_ok-stealer.stealer))

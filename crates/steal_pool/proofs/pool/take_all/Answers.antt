@@ -13,9 +13,9 @@ use Rattle.lemmas.specs.Counts.{total}
 popped : (old new : List WorkerSeat) (last : WorkerSeat) → old ≡ new ++ last ∷ [] → map state_of old ≡ map state_of new ++ state_of last ∷ []
 popped old new last e = ap (map state_of) e ∙ map-snoc state_of new last
 
-is_last : (room : ℕ) (deques : List Deque) (old new : List WorkerSeat) (last : WorkerSeat) → length deques ≤ 64 → map as_opened (map state_of old) ≡ new_seats room deques → old ≡ new ++ last ∷ []
-    → IsLast room (map state_of new) (state_of last)
-is_last room deques old new last few begun e = last_seat room deques (map state_of new) (state_of last) few (ap (map as_opened) (sym (popped old new last e)) ∙ begun)
+is_last : (capacity : ℕ) (deques : List Deque) (old new : List WorkerSeat) (last : WorkerSeat) → length deques ≤ 64 → map as_opened (map state_of old) ≡ new_seats capacity deques → old ≡ new ++ last ∷ []
+    → IsLast capacity (map state_of new) (state_of last)
+is_last capacity deques old new last few begun e = last_seat capacity deques (map state_of new) (state_of last) few (ap (map as_opened) (sym (popped old new last e)) ∙ begun)
 
 pub take_last-requires-clause-met : goal.take_last-requires-clause-met
 take_last-requires-clause-met c =
@@ -31,10 +31,10 @@ take_last-requires-clause-parts c =
     let seats = ap length c.as_mut_slice.ensures.value in
     omega (arith, parts, seats, length-map c.pop.new.self.items state_of)
 
-pub take_last-requires-clause-room : goal.take_last-requires-clause-room
-take_last-requires-clause-room c =
+pub take_last-requires-clause-capacity : goal.take_last-requires-clause-capacity
+take_last-requires-clause-capacity c =
     let sum = ap (total (λ (s : SeatState). length s.owner.put)) (popped c.loop-last.seats.items c.pop.new.self.items c.in-Some.last c.in-Some.ensures.items) in
-    omega (arith, sum, total_push (λ (s : SeatState). length s.owner.put) (map state_of c.pop.new.self.items) (state_of c.in-Some.last), c.loop-last.invariant.room)
+    omega (arith, sum, total_push (λ (s : SeatState). length s.owner.put) (map state_of c.pop.new.self.items) (state_of c.in-Some.last), c.loop-last.invariant.capacity)
 
 pub loop-last-preserved : goal.loop-last-preserved
 loop-last-preserved c =
@@ -49,7 +49,7 @@ loop-last-preserved c =
     let old = popped c.loop-last.seats.items c.pop.new.self.items last c.in-Some.ensures.items in
     record {
       seats = (inv.seats.0, is.front, (let few = is.few in omega arith), ap (map as_opened) parted ∙ last_parted inv.seats.0 before (state_of last) is);
-      room =
+      capacity =
           let now = ap (total (λ (s : SeatState). length s.owner.put)) parted ∙ parted-put_by length before last.thieves.items in
           let was = ap (total (λ (s : SeatState). length s.owner.put)) old in
           let items = ap length left.1 in
@@ -64,7 +64,7 @@ loop-last-preserved c =
             ones last.owner.put,
             ones left.0,
             c.take_last.ensures.capacity,
-            inv.room,
+            inv.capacity,
             c.take_last.new.left.ok,
             c.loop-last.left.ok,
           );

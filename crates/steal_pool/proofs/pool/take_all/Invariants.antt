@@ -7,8 +7,8 @@ use Rattle.lemmas.specs.Counts.{total}
 
 abbrev pub invariant-loop-last : goal.invariant-loop-last
 invariant-loop-last l = record {
-  seats : (room : ℕ) × (deques : List Deque) × (length deques ≤ 64) × (map as_opened (map state_of l.seats.items) ≡ new_seats room deques);
-  room : vec_len l.left + total (λ (s : SeatState). length s.owner.put) (map state_of l.seats.items) ≤ vec_capacity l.left;
+  seats : (capacity : ℕ) × (deques : List Deque) × (length deques ≤ 64) × (map as_opened (map state_of l.seats.items) ≡ new_seats capacity deques);
+  capacity : vec_len l.left + total (λ (s : SeatState). length s.owner.put) (map state_of l.seats.items) ≤ vec_capacity l.left;
   weights : (h : Piece → ℕ) → (total (put_by h) (map state_of l.initial.seats.items) + total (taken_by h) (map state_of l.seats.items)) + total h l.initial.left.items
       ≡ (total (taken_by h) (map state_of l.initial.seats.items) + total (put_by h) (map state_of l.seats.items)) + total h l.left.items;
 }

@@ -14,10 +14,10 @@ drain-requires-clause-whole c =
     let all = parted_owner-parts last.owner.deque last.owner seats last.thieves.items c.requires.met in
     omega (arith, owner, all, length-map c.args.seats.now state_of, c.requires.parts)
 
-pub drain-requires-clause-room : goal.drain-requires-clause-room
-drain-requires-clause-room c =
+pub drain-requires-clause-capacity : goal.drain-requires-clause-capacity
+drain-requires-clause-capacity c =
     let put = ap (λ (o : OwnerState). length o.put) c.leave_all.ensures.owner ∙ ap length (parted_owner-put c.args.last.owner (map state_of c.args.seats.now)) in
-    omega (arith, put, c.requires.room)
+    omega (arith, put, c.requires.capacity)
 
 pub returns-clause-left : goal.returns-clause-left
 returns-clause-left c =

@@ -9,7 +9,7 @@ use Rattle.lemmas.specs.Lists.{Each}
 use Rattle.solid_model.specs.Marks.{BoxMarks, is_marked}
 use Rattle.solid_model.specs.Panels.{coordinates_of}
 use Rattle.solid_model.specs.PerAxis.{numbers_of}
-use Rattle.solid_model.specs.Rooms.{is_within, box_place, box_count}
+use Rattle.solid_model.specs.WalledBoxes.{is_within, box_place, box_count}
 use Rattle.solid_model.specs.GridBox.{grid_sizes}
 use Rattle.stl_out.specs.Numbered.{IsOfGrid}
 use Rattle.stl_out.specs.Rectangles.{AreRectanglesOf}

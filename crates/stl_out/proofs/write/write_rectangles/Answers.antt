@@ -7,9 +7,8 @@ use Rattle.face_laws.specs.GridFaces.{Planes, grid_planes}
 use Rattle.solid_model.specs.Panels.{coordinates_of}
 use Rattle.stl_out.specs.declared.rectangle.Rectangle.{Rectangle}
 use Rattle.stl_out.specs.Pieces.{rectangle_text}
-use Rattle.text_pieces.specs.Pieces.{WritesOn}
-use Rattle.text_pieces.proofs.WrittenPieces.{written_next, prefix_written, prefix_longer, at_error}
-use Rattle.tv_base.specs.Pieces.{AppendsPrefix}
+use Rattle.tv_base.specs.Pieces.{WritesOn, AppendsPrefix}
+use Rattle.tv_base.proofs.WrittenPieces.{written_next, prefix_written, prefix_longer, at_error}
 use Rattle.stl_out.proofs.write.write_rectangles.Goals as goal
 
 -- the texts of the first members, and of the next one

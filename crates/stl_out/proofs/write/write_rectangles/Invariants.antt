@@ -4,7 +4,7 @@ use Rattle.std.specs.List.{flat_map}
 use Rattle.face_laws.specs.GridFaces.{grid_planes}
 use Rattle.solid_model.specs.Panels.{coordinates_of}
 use Rattle.stl_out.specs.Pieces.{rectangle_text}
-use Rattle.text_pieces.specs.Pieces.{WritesOn}
+use Rattle.tv_base.specs.Pieces.{WritesOn}
 use Rattle.stl_out.proofs.write.write_rectangles.Given as goal
 
 abbrev pub invariant-loop-rectangle : goal.invariant-loop-rectangle

@@ -9,7 +9,7 @@ use Rattle.solid_model.specs.Panels.{coordinates_of}
 use Rattle.stl_out.specs.Rectangles.{all_triangles}
 use Rattle.stl_out.specs.StlText.{stl_text}
 use Rattle.stl_out.proofs.SomeRectangles.{some_rectangles, is_text}
-use Rattle.text_pieces.proofs.WrittenPieces.{no_prefix}
+use Rattle.tv_base.proofs.WrittenPieces.{no_prefix}
 use Rattle.tv_base.specs.Pieces.{AppendsPrefix}
 use Rattle.stl_out.proofs.write.write_stl.Goals as goal
 

@@ -6,10 +6,9 @@ use Rattle.std.proofs.lemmas.Result.{on_ok_weaker, on_err_weaker}
 use Rattle.face_laws.specs.GridFaces.{Planes, grid_planes}
 use Rattle.solid_model.specs.Panels.{GridParts, coordinates_of}
 use Rattle.stl_out.specs.Pieces.{rectangle_text}
-use Rattle.text_pieces.specs.Pieces.{WritesOn}
+use Rattle.tv_base.specs.Pieces.{WritesOn, AppendsPrefix}
 use Rattle.stl_out.proofs.Texts.{whole_text}
-use Rattle.text_pieces.proofs.WrittenPieces.{written_more, prefix_written, prefix_longer, last_written, left_over, at_error}
-use Rattle.tv_base.specs.Pieces.{AppendsPrefix}
+use Rattle.tv_base.proofs.WrittenPieces.{written_more, prefix_written, prefix_longer, last_written, left_over, at_error}
 use Rattle.stl_out.proofs.write.write_text.Goals as goal
 
 pub returns-in_err-write_rectangles-clause-err : goal.returns-in_err-write_rectangles-clause-err

@@ -1,6 +1,6 @@
--- The room has rows for the problem's cells.
+-- The buffers have rows for the problem's cells.
 use Rattle.std.proofs.Common.{◌≡◌}
 use Rattle.surface_tests.proofs.texts.told_in_turn.Given as goal
 
 abbrev pub invariant-loop-full : goal.invariant-loop-full
-invariant-loop-full l = l.room.rows.sizes ≡ l.texts.problem.blocks.sizes
+invariant-loop-full l = l.buffers.rows.sizes ≡ l.texts.problem.blocks.sizes

@@ -6,7 +6,7 @@ use Rattle.tv_base.proofs.read.read_all.Given as goal
 abbrev pub invariant-loop-bytes : goal.invariant-loop-bytes
 invariant-loop-bytes g l = record {
   fits : length l.bytes.items ≤ l.most;
-  room : 0 < length l.room.items;
+  buffer : 0 < length l.buffer.items;
   read : Consumes (g.S.Source.left l.initial.source) (g.S.Source.left l.source) l.bytes.items;
   later : g.S.Source.faults l.initial.source ≤ g.S.Source.faults l.source;
 }

@@ -3,7 +3,7 @@ use Rattle.std.proofs.Common.{◌≡◌, not, length, map, IsTrue, ap, sym, subs
 use Rattle.std.proofs.lemmas.List.{length-map}
 use Rattle.solid_model.specs.Marks.{AreMarksOf, is_marked}
 use Rattle.solid_model.specs.PerAxis.{numbers_of}
-use Rattle.solid_model.specs.Rooms.{box_count}
+use Rattle.solid_model.specs.WalledBoxes.{box_count}
 use Rattle.virtual_faces.proofs.EnclosedFaces.{others_marked}
 use Rattle.virtual_faces.proofs.faces.others.Goals as goal
 

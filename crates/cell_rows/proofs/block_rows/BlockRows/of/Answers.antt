@@ -2,7 +2,7 @@
 use Rattle.std.proofs.Common.{◌≡◌, ◌≤◌, ◌∙◌, length, ap, sym, subst}
 use Rattle.solid_model.specs.Blocks.{BlockNumbers}
 use Rattle.solid_model.specs.PerAxis.{numbers_of}
-use Rattle.solid_model.specs.Rooms.{box_count}
+use Rattle.solid_model.specs.WalledBoxes.{box_count}
 use Rattle.cell_rows.proofs.ProblemSizes.{sizes_of_blocks}
 use Rattle.cell_rows.proofs.block_rows.BlockRows.of.Goals as goal
 

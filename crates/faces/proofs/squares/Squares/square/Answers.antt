@@ -4,5 +4,5 @@ use Rattle.faces.proofs.squares.Squares.square.Goals as goal
 
 pub returns-clause-v : goal.returns-clause-v
 returns-clause-v c =
-    let few = c.rows.ensures.few.few in
+    let few = c.known.ensures.few in
     omega (arith, few, c.requires)

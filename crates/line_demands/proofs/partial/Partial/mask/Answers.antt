@@ -10,7 +10,7 @@ use Rattle.line_demands.specs.Spans.{no_column, known_there}
 use Rattle.line_demands.proofs.partial.Partial.mask.Goals as goal
 use Rattle.solid_model.specs.Demands.{known_cell}
 use Rattle.solid_model.specs.PerAxis.{numbers_of}
-use Rattle.solid_model.specs.Rooms.{Sizes}
+use Rattle.solid_model.specs.WalledBoxes.{Sizes}
 use Rattle.solid_model.specs.GridBox.{grid_sizes}
 
 pub number_of_column-requires-clause-right : goal.number_of_column-requires-clause-right

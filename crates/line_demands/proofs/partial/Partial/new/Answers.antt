@@ -23,13 +23,13 @@ touch_all-requires-clause-on c =
     let size : c.from-count.result ≡ p.blocks.count = search rules in
     let n : length c.as_mut_slice-2.result.now ≡ p.blocks.count = ap length c.as_mut_slice-2.ensures.value ∙ c.in_ok-touched.ensures.0 ∙ size in
     subst (All (λ bs. All (λ b. b < length c.as_mut_slice-2.result.now) bs)) (sym (c.as_slice.ensures.value ∙ c.in_ok-push-2.ensures.items))
-    (on_all p c.grid-grid.ensures.kept c.gather_columns.new.spans c.in_ok-columns.columns.items c.gather_columns.new.on.items (length c.as_mut_slice-2.result.now) c.new.result c.in_ok-columns.ensures n c.new.ensures)
+    (on_all p c.known.ensures.blocks c.gather_columns.new.spans c.in_ok-columns.columns.items c.gather_columns.new.on.items (length c.as_mut_slice-2.result.now) c.new.result c.in_ok-columns.ensures n c.new.ensures)
 
 pub break_all-requires-clause-within : goal.break_all-requires-clause-within
 break_all-requires-clause-within c =
     let p = c.args.problem.now in
     subst AreWithin (sym (c.as_slice-3.ensures.value ∙ c.in_ok-push.ensures.items))
-    (planned_columns p c.grid-grid.ensures.kept c.gather_columns.new.spans c.in_ok-columns.columns.items c.gather_columns.new.on.items c.in_ok-columns.ensures).within
+    (planned_columns p c.known.ensures.blocks c.gather_columns.new.spans c.in_ok-columns.columns.items c.gather_columns.new.on.items c.in_ok-columns.ensures).within
 
 pub invariant_of-result : goal.invariant_of-result
 invariant_of-result c =
@@ -61,11 +61,11 @@ invariant_of-result c =
     let tall : p.blocks.count ≤ vec_capacity c.in_ok-heights.heights = (let a = c.in_ok-heights.ensures.exact in omega (arith, a, size)) in
     let wide : length met ≤ vec_capacity c.break_all.new.broken = (let a = c.break_all.ensures.room in let b = c.in_ok-broken.ensures.exact in omega (arith, a, b, met_count, c.len-2.ensures, c.in_ok-sides.sides.ok.0)) in
     let exact : (b : ℕ) (ls : List ℕ) (d : Beside) → b < length spans → map (λ i. (get_or sides i d).line) (get_or touched b ls) ≡ lines_touching p b =
-    touched_exact p c.grid-grid.ensures.kept spans columns on c.in_ok-columns.ensures sides c.in_ok-sides.ensures.sides touched listed in
+    touched_exact p c.known.ensures.blocks spans columns on c.in_ok-columns.ensures sides c.in_ok-sides.ensures.sides touched listed in
     let table : AreValues p.blocks.count [] c.in_ok-values.values.items = record { count = c.in_ok-values.ensures.0 ∙ size; each = λ b e l. c.in_ok-values.ensures.1 b e (let m = c.in_ok-values.ensures.0 in omega (arith, m, size, l)) } in (
       planned_as p c.in_ok-decisions.decisions.items spans _ touched _ sides (columns ++ no_column ∷ []) _ met _ c.in_ok-heights.heights.items broken _ _ _
           c.in_ok-decisions.ensures.items all_spans all_touched c.in_ok-push.ensures.items all_met c.in_ok-heights.ensures.items
-          (planned p c.grid-grid.ensures.kept spans columns on touched sides met broken _ _ _ c.in_ok-columns.ensures c.in_ok-sides.ensures.sides c.in_ok-sides.ensures.few listed exact met_count c.break_all.ensures.marked lost roomy tall wide),
+          (planned p c.known.ensures.blocks spans columns on touched sides met broken _ _ _ c.in_ok-columns.ensures c.in_ok-sides.ensures.sides c.in_ok-sides.ensures.few listed exact met_count c.break_all.ensures.marked lost roomy tall wide),
       subst (λ (ds : List Decision). AreValues p.blocks.count ds c.in_ok-values.values.items) (sym c.in_ok-decisions.ensures.items) table,
       subst (λ (ds : List Decision). AreDoubts p ds c.in_ok-doubts.doubts.items (vec_capacity c.in_ok-doubts.doubts)) (sym c.in_ok-decisions.ensures.items)
           (subst (λ ms. AreDoubts p [] ms (vec_capacity c.in_ok-doubts.doubts)) (sym c.in_ok-doubts.ensures.items)
@@ -79,7 +79,7 @@ invariant_of-result c =
         wanted_is = subst (λ (ss : List Beside). AreStylesOf ss c.in_ok-lines.lines.items c.in_ok-wanted.wanted.items) c.as_slice-6.ensures.value
             (subst (λ ls. AreStylesOf c.as_slice-6.result.now ls c.in_ok-wanted.wanted.items) c.as_slice-7.ensures.value c.in_ok-wanted.ensures.styles);
       },
-      c.grid-grid.ensures.kept,
+      c.known.ensures.blocks,
     )
 
 pub wanted_styles-requires : goal.wanted_styles-requires

@@ -38,7 +38,7 @@ returns-in-Forced-clause-right c =
     let d : Decision = record { block = c.in-Forced.block; full = c.in-Forced.full } in
     let (met, now, first) = c.in-Forced.ensures.step in
     let each = subst (λ (q : ProblemParts). AreDecisions q.blocks.count (ds ++ d ∷ [])) c.step_doubted.ensures.problem
-    (subst (AreDecisions c.step_doubted.new.partial.problem.blocks.count) now c.decided-count.ensures.each) in
+    (subst (AreDecisions c.step_doubted.new.partial.problem.blocks.count) now c.known.ensures.decided) in
     let there = each ds [] d refl in
     subst (λ (w : WalkParts). IsRightEntry w.problem (decided_by w.decisions) (Force c.from.result d.full c.place_of.result)) c.self.view_is
     (subst (λ n. IsRightEntry p (decided_by ds) (Force n d.full c.place_of.result)) (sym c.from.ensures)
@@ -51,7 +51,7 @@ returns-in-Forced-clause-coming c =
     let d : Decision = record { block = c.in-Forced.block; full = c.in-Forced.full } in
     let (met, now, first) = c.in-Forced.ensures.step in
     let each = subst (λ (q : ProblemParts). AreDecisions q.blocks.count (ds ++ d ∷ [])) c.step_doubted.ensures.problem
-    (subst (AreDecisions c.step_doubted.new.partial.problem.blocks.count) now c.decided-count.ensures.each) in
+    (subst (AreDecisions c.step_doubted.new.partial.problem.blocks.count) now c.known.ensures.decided) in
     let there = each ds [] d refl in
     ap (λ xs. all_to_come true xs ms) now ∙ standing_decided ds d ms there.1 c.self.invariant.0
     ∙ ap (λ n. with_block (decided_by ds) n d.full ∷ sides_to_come ds ms) (sym c.from.ensures)

@@ -3,7 +3,7 @@ use Rattle.std.proofs.Common.{◌≡◌, sym, ◌∙◌, ap, subst, arith}
 use Rattle.solid_model.specs.declared.cell.Axis.TheVariants.{X, Y, Z}
 use Rattle.solid_model.specs.declared.frame.Frame.{Frame}
 use Rattle.solid_model.specs.PerAxis.{numbers_of, numbered, AreFew}
-use Rattle.solid_model.specs.Rooms.{Sizes}
+use Rattle.solid_model.specs.WalledBoxes.{Sizes}
 use Rattle.pseudo_wire.specs.DrawnPoints.{point_sizes, view_sizes}
 use Rattle.pseudo_wire.proofs.MarkedPoints.{few_points}
 use Rattle.pseudo_wire.proofs.drawn_points.ViewPointsCellTest.sizes.Goals as goal

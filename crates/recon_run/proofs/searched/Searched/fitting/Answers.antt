@@ -1,8 +1,8 @@
 -- Of the choices those are kept that fit; where no view is asked for these are all.
 use Rattle.std.proofs.Common.{◌≡◌, ◌∙◌, List, Bool, length, refl, ap, subst, arith}
 use Rattle.std.specs.Arc.{arc_value}
-use Rattle.choice_sieves.specs.Those.{AreThose}
-use Rattle.choice_sieves.proofs.Those.{each_is, no_more_those}
+use Rattle.page_calls.specs.Those.{AreThose}
+use Rattle.page_calls.proofs.Those.{each_is, no_more_those}
 use Rattle.further_views.specs.Further.{FurtherRuns}
 use Rattle.lemmas.proofs.Lists.{each-from}
 use Rattle.recon_run.specs.Searched.{IsFittingOf, SearchedParts}

@@ -60,6 +60,6 @@ invariant_of-self-2 c =
 
 pub returns : goal.returns
 returns c =
-    let (drawing, is_drawing, is_grid) = c.coordinates.ensures.kept in
+    let (drawing, is_drawing, is_grid) = c.known.ensures.kept in
     lines_of_all c.args.decimals (coordinates_of c.args.grid.now) c.args.cells.now c.requires.sizes (λ a. (is_grid.coordinates a).ordered)
     c.put_all.new.planes.items c.in_ok-put_all.ensures

@@ -12,7 +12,7 @@ overflow_add-index_mut c =
     let l : c.args.place < length counts = subst (λ (v : FrontierParts). c.args.place < length v.counts) (sym c.self.view_is) c.requires.place in
     let is : c.index_mut.result.now ≡ count_of counts c.args.place = get_or_read counts c.args.place c.index_mut.result.now l c.index_mut.ensures.value 0 in
     let few = counted_at_most c.self.inside.put.items counts c.self.inside.first c.self.invariant c.args.place in
-    let room : length c.self.inside.put.items < min (vec_capacity c.self.inside.put) most_puts = subst (λ (v : FrontierParts). length v.put < v.room) (sym c.self.view_is) c.requires.room in
+    let capacity : length c.self.inside.put.items < min (vec_capacity c.self.inside.put) most_puts = subst (λ (v : FrontierParts). length v.put < v.capacity) (sym c.self.view_is) c.requires.capacity in
     omega arith
 
 pub invariant_of-self : goal.invariant_of-self

@@ -11,7 +11,7 @@ publish-requires-clause-each g c =
     let d = c.self.inside.desk in
     let e = c.self.inside.book.edition in
     let n = c.published-published.result in
-    let blocks : IsBlocksOf d.problem.grid d.problem.blocks = subst (λ (p : ProblemParts). IsBlocksOf p.grid p.blocks) (c.deref.ensures ∙ c.problem.ensures.problem) c.grid-grid.ensures.kept in
+    let blocks : IsBlocksOf d.problem.grid d.problem.blocks = subst (λ (p : ProblemParts). IsBlocksOf p.grid p.blocks) (c.deref.ensures ∙ c.problem.ensures.problem) c.known.ensures.blocks in
     subst (λ (xs : List (List Bool)). Each (IsSolutionOf e.problem) (take (length xs - n) (drop n xs))) (sym c.found-found.ensures.found)
     (others_each d e c.self.invariant n c.published-published.ensures.published c.found-found.ensures.kept blocks)
 
@@ -20,7 +20,7 @@ publish-requires-clause-once g c =
     let d = c.self.inside.desk in
     let e = c.self.inside.book.edition in
     let n = c.published-published.result in
-    let blocks : IsBlocksOf d.problem.grid d.problem.blocks = subst (λ (p : ProblemParts). IsBlocksOf p.grid p.blocks) (c.deref.ensures ∙ c.problem.ensures.problem) c.grid-grid.ensures.kept in
+    let blocks : IsBlocksOf d.problem.grid d.problem.blocks = subst (λ (p : ProblemParts). IsBlocksOf p.grid p.blocks) (c.deref.ensures ∙ c.problem.ensures.problem) c.known.ensures.blocks in
     subst (λ (xs : List (List Bool)). Ascends ◌≢◌ (e.solids ++ take (length xs - n) (drop n xs))) (sym c.found-found.ensures.found)
     (others_once d e c.self.invariant n c.published-published.ensures.published c.found-found.ensures.kept blocks)
 

@@ -17,6 +17,6 @@ invariant_of-result c =
         within = omega arith;
         roomy = omega (arith, ap length c.in_ok-from_bools.ensures, c.as_slice.ensures.len, c.in_ok-said.ensures.len, c.from-count.ensures);
         roomy_marks = omega (arith, c.begin.ensures.room, c.in_ok-marks.ensures.exact, c.from-count.ensures);
-        parts = subst (λ (p : ProblemParts). IsBlocksOf p.grid p.blocks) (sym same) c.grid-grid.ensures.kept;
+        parts = subst (λ (p : ProblemParts). IsBlocksOf p.grid p.blocks) (sym same) c.known.ensures.blocks;
       },
     )

@@ -1,8 +1,8 @@
 -- The sink gained one page more, or a prefix of it.
 use Rattle.std.proofs.Common.{◌↔◌, Bool, ◌≡◌, ◌∙◌, ◌++◌, ◌∷◌, [], List, map, ap, subst, sym}
 use Rattle.std.proofs.lemmas.List.{map-append}
-use Rattle.choice_sieves.specs.Those.{AreThose}
-use Rattle.choice_sieves.proofs.Those.{those_alike}
+use Rattle.page_calls.specs.Those.{AreThose}
+use Rattle.page_calls.proofs.Those.{those_alike}
 use Rattle.sink_pages.specs.declared.pages.Told.{Told}
 use Rattle.sink_pages.specs.KeptCalls.{call_of}
 use Rattle.sink_pages.proofs.Gained.{told_next}

@@ -1,6 +1,6 @@
 -- A grid's cells are few, and there is a number or none for each of them.
 use Rattle.std.proofs.Common.{ap, sym, ◌∙◌, arith}
-use Rattle.solid_model.specs.Rooms.{box_count}
+use Rattle.solid_model.specs.WalledBoxes.{box_count}
 use Rattle.solid_model.proofs.blocks.Blocks.new.Goals as goal
 
 pub invariant_of-result : goal.invariant_of-result

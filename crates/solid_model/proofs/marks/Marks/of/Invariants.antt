@@ -1,7 +1,7 @@
 -- The answers so far.
 use Rattle.std.proofs.Common.{◌≡◌, ◌<◌, ◌+◌, IsTrue}
 use Rattle.solid_model.specs.PerAxis.{numbers_of, cell_of}
-use Rattle.solid_model.specs.Rooms.{is_within, box_place}
+use Rattle.solid_model.specs.WalledBoxes.{is_within, box_place}
 use Rattle.solid_model.proofs.MarkedCells.{IsAnswerAt}
 use Rattle.lemmas.proofs.Pushed.{HoldsSoFar}
 use Rattle.solid_model.proofs.marks.Marks.of.Given as goal

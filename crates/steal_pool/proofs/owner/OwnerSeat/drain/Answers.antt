@@ -29,7 +29,7 @@ push_reserved-requires c =
     let l = has_room (worker_view c.loop-self.self-inside.worker) rule.0 c.args.self.now.taken inv.moved.0 rule.2 (omega (arith, rule.1, c.loop-self-test.true)) (ap (λ (v : Account). v.taken) knows) in
     let put = ap (λ (v : Account). length v.put) knows in
     let grown = ap length inv.moved.1 ∙ length-append c.args.left.now.items inv.moved.0 in
-    omega (arith, l, put, grown, inv.capacity, c.requires.room, c.loop-self.left.ok, c.args.left.now.ok)
+    omega (arith, l, put, grown, inv.reserved, c.requires.capacity, c.loop-self.left.ok, c.args.left.now.ok)
 
 pub loop-self-smaller : goal.loop-self-smaller
 loop-self-smaller c =
@@ -50,7 +50,7 @@ returns-after-loop-self-clause-left c =
     let none = settled_none (worker_view c.loop-self.self-inside.worker) rule.0 (omega (arith, rule.1, c.loop-self-test.false)) rule.2 in (
       more,
       inv.moved.1,
-      seen now _ _ _ more (c.len_as.ensures.same.0.0 ∙ inv.same.0 ∙ ap (λ (o : OwnerState). o.deque) c.self.view_is) (inv.room ∙ ap (λ (o : OwnerState). o.room) c.self.view_is) (c.len_as.ensures.same.2 ∙ knows),
+      seen now _ _ _ more (c.len_as.ensures.same.0.0 ∙ inv.same.0 ∙ ap (λ (o : OwnerState). o.deque) c.self.view_is) (inv.capacity ∙ ap (λ (o : OwnerState). o.capacity) c.self.view_is) (c.len_as.ensures.same.2 ∙ knows),
       settled_moved now more (settled_again (account now.parts now.put (now.taken ++ more)) (worker_view c.loop-self.self-inside.worker) [] knows none),
     )
 
@@ -64,6 +64,6 @@ returns-in-None-clause-left c =
     let before = c.len_as.ensures.same.2 ∙ knows in (
       more,
       inv.moved.1,
-      seen now _ _ _ more (c.in-None.ensures.same.0.0 ∙ c.len_as.ensures.same.0.0 ∙ inv.same.0 ∙ ap (λ (o : OwnerState). o.deque) c.self.view_is) (inv.room ∙ ap (λ (o : OwnerState). o.room) c.self.view_is) (rule.0 ∙ before),
+      seen now _ _ _ more (c.in-None.ensures.same.0.0 ∙ c.len_as.ensures.same.0.0 ∙ inv.same.0 ∙ ap (λ (o : OwnerState). o.deque) c.self.view_is) (inv.capacity ∙ ap (λ (o : OwnerState). o.capacity) c.self.view_is) (rule.0 ∙ before),
       settled_moved now more (settled_again (account now.parts now.put (now.taken ++ more)) (worker_view c.len_as.new.self) [] before (emptied (worker_view c.len_as.new.self) (ap (λ (v : Account). v.parts) before ∙ c.requires.whole) rule.1)),
     )

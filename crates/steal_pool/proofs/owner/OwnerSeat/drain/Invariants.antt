@@ -7,9 +7,9 @@ abbrev pub invariant-loop-self : goal.invariant-loop-self
 invariant-loop-self l = record {
   same : SameWorker l.initial.self-inside.worker l.self-inside.worker;
   index : worker_index l.self-inside.worker ≤ worker_index l.initial.self-inside.worker;
-  room : l.self-inside.room ≡ l.initial.self-inside.room;
+  capacity : l.self-inside.capacity ≡ l.initial.self-inside.capacity;
   count : l.self-inside.count ≡ l.initial.self-inside.count;
-  capacity : vec_capacity l.left ≡ vec_capacity l.initial.left;
+  reserved : vec_capacity l.left ≡ vec_capacity l.initial.left;
   moved : (more : List Piece) × (l.left.items ≡ l.initial.left.items ++ more)
       × (worker_view l.self-inside.worker ≡ account (worker_view l.initial.self-inside.worker).parts (worker_view l.initial.self-inside.worker).put ((worker_view l.initial.self-inside.worker).taken ++ more));
 }

@@ -6,6 +6,6 @@ use Rattle.steal_pool.proofs.pool.Pool.open.Given as goal
 
 abbrev pub invariant-loop : goal.invariant-loop
 invariant-loop l = record {
-  seats : map state_of l.seats.items ≡ new_seats l.room (map stealer_deque l.stealers.items);
+  seats : map state_of l.seats.items ≡ new_seats l.capacity (map stealer_deque l.stealers.items);
   count : length l.stealers.items ≡ l.counter;
 }

@@ -8,8 +8,8 @@ returns-clause-bytes c =
     let at = c.self.inside.at in
     let bytes = c.self.inside.bytes.items in
     let count = c.copy_prefix-count.result in
-    let room = c.copy_prefix-count.new.room in
+    let buffer = c.copy_prefix-count.new.buffer in
     let from_is : take (length c.deref-2.result.now - at) (drop at c.deref-2.result.now) ≡ drop at bytes = take_rest c.deref-2.result.now at ∙ ap (drop at) c.deref-2.ensures.value in
-    let copied : room ≡ take count (drop at bytes) ++ drop count c.args.room.now = rw from_is at c.copy_prefix-count.ensures.copied in
+    let copied : buffer ≡ take count (drop at bytes) ++ drop count c.args.buffer.now = rw from_is at c.copy_prefix-count.ensures.copied in
     let within : count ≤ length (drop at bytes) = omega (arith, rw from_is at c.copy_prefix-count.ensures.count) in
-    ap (λ s. s.left) (sym c.self.view_is) ∙ copied_and_left (drop at bytes) c.args.room.now room count within copied ∙ ap (λ ys. take count room ++ ys) (drop-drop count at bytes)
+    ap (λ s. s.left) (sym c.self.view_is) ∙ copied_and_left (drop at bytes) c.args.buffer.now buffer count within copied ∙ ap (λ ys. take count buffer ++ ys) (drop-drop count at bytes)

@@ -1,7 +1,7 @@
 -- The sizes are those of the grid's faces.
 use Rattle.std.proofs.Common.{◌≡◌, ap, ◌∙◌, arith}
 use Rattle.solid_model.specs.PerAxis.{numbers_of}
-use Rattle.solid_model.specs.Rooms.{face_sizes}
+use Rattle.solid_model.specs.WalledBoxes.{face_sizes}
 use Rattle.solid_model.proofs.BoxPlaces.{few_faces}
 use Rattle.virtual_faces.proofs.faces.FacesAcrossWalls.sizes.Goals as goal
 
