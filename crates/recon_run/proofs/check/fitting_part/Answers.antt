@@ -10,4 +10,4 @@ pub returns : goal.returns
 returns c =
     let kept = c.in_ok-fitting.fitting.items in let choices = c.args.choices.now in
     let those = subst (λ (s : SieveParts). AreThose (FitsChoice s.problem s.further) choices kept) c.in_ok-sieve.ensures c.in_ok-fitting.ensures.those in
-    IfOk-weaker c.fitting_text.result _ _ (λ text told. (kept, those, told ∙ (λ t. fitting_text (c.len.ensures t) (c.as_slice.ensures.value t)))) c.fitting_text.ensures
+    IfOk-weaker c.fitting_text.result _ _ (λ text told. (kept, those, told ∙ ap (fitting_text (length choices)) c.as_slice.ensures.value)) c.fitting_text.ensures
