@@ -156,7 +156,13 @@ static REDRAW: Rows<'static> = Rows {
 
 /// What `stl` takes.
 static STL: Rows<'static> = Rows {
-    options: &[WORKERS_ROW, NODES_ROW, SOLIDS_ROW, TWO_VIEWS_ROW, SECTIONS_ROW],
+    options: &[
+        WORKERS_ROW,
+        NODES_ROW,
+        SOLIDS_ROW,
+        TWO_VIEWS_ROW,
+        SECTIONS_ROW,
+    ],
     number: Some(SOLIDS),
 };
 
