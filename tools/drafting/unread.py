@@ -74,5 +74,5 @@ def refuse_oblique(path: str | None, placed: Placed, taken: Collection[Edge] = (
             a, b, c, d = (round(it - least, 9) + 0.0 for it, least in zip((*run.edge.start, *run.edge.end), (x, y, x, y)))
             off = min(abs(a - c), abs(b - d))
             text = (f"in {view} a {where(run.edge.source, path)} goes from {a:.9g}, {b:.9g} to {c:.9g}, {d:.9g}{behind}: it is oblique, off by "
-                    f"{off:.3g}, and recon reads level and upright edges alone{why(run.edge)}")
-            raise Noisy(text, off) if off < NOISE * max(group.width, group.height) else Refused(text)
+                    f"{off:.3g}, and recon reads level and upright edges alone")
+            raise Noisy(text, off) if off < NOISE * max(group.width, group.height) else Refused(text + why(run.edge))

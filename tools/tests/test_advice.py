@@ -104,7 +104,7 @@ def sheets_here() -> "list[test_causes.Row]":
             refused="is left out by --leave-out layer=FILL --leave-out 'layer=NOTES A'$"),
         row("section_by_a_label", with_views(label("0")), refused="Draw FRONT uncut too$"),
         row("oblique_by_little", with_views(line((0, 0), (6, 0.01))), refused=r"off by 0.01, .* alone; say --tolerance 0\.02 where it is noise$"),
-        row("oblique", with_views(line((0, 0), (6, 4))), refused="off by 4, .* edges alone$"),
+        row("oblique", with_views(line((0, 0), (6, 4))), refused="off by 4, .* edges alone, .* no corner that is cut off or filled .*: where it ends no level or upright line goes on away from it$"),
         row("near_to_another", with_views(line((0, 0.0002), (6, 0.0002))), refused=r"--tolerance 0\.0005 where it is noise or --tolerance 0\.00002 where it is an edge$"),
         row("two_parts", two_parts, refused=r"by --leave-out group=4-6 or --leave-out group=1-3 "),
         row("frame_round_two_views", framed, ("--angle", "third"), refused="a frame is left out by --leave-out layer=SHEET$"),
