@@ -28,6 +28,8 @@ WORDS = {
     "TooFine": ("an axis has more than 64 different coordinates", "leave out details, or draw parts of it by themselves"),
     "TooManyBlocks": ("the drawing has more than 4,096 blocks", "leave out details, or draw parts of it by themselves"),
     "Curved": ("a side of a polyline is bent", "draw it by straight lines; curves aren't read"),
+    "SectionName": ("a layer begins as a section's does and names none", "name a view and a plane, as SECTION_FRONT_12 or AREA_FRONT_12"),
+    "NoCut": ("a section's plane doesn't lie within the part", "say where it cuts the part, from its least coordinate on"),
 }
 
 
