@@ -9,7 +9,7 @@ ghost use Rattle.solid_model.specs.declared.frame.View.TheVariants.{Side};
 ghost use Rattle.solid_model.specs.Cells.{cell_at};
 ghost use Rattle.report.specs.FaultText.{fault_text};
 ghost use Rattle.report.specs.SmallTexts.{face_on};
-ghost use Rattle.report.specs.Texts.{face_text, head_text, no_solid_text, page_text, solid_line, trial_text};
+ghost use Rattle.report.specs.Texts.{face_text, fitting_text, head_text, no_solid_text, page_text, solid_line, trial_text};
 
 /// The lines of faces on each outward side, written out by hand: without decimals, and with some.
 pub fn small_face_texts()

@@ -30,3 +30,7 @@ returns-clause-trial c = refl
 pub returns-clause-none : goal.returns-clause-none
 unfolding digits
 returns-clause-none c = refl
+
+pub returns-clause-fitting : goal.returns-clause-fitting
+unfolding digits
+returns-clause-fitting c = refl
