@@ -102,6 +102,11 @@ solve, --two -> usage
 solve, --two-view -> usage
 solve, --two_views -> usage
 solve, two-views -> usage
+solve, --sections, --pages -> solve 1 1000000 4096 pages sections
+solve, --sections, --decimals, 3, --two-views -> solve 1 1000000 4096 decimals 3 two sections
+solve, --sections= -> usage
+solve, --sections, --sections -> usage
+solve, --section -> usage
 solve, --number, 3 -> usage
 solve, -h -> usage
 solve, --help -> usage
@@ -134,17 +139,21 @@ redraw, --decimals=2, 1 -> redraw 1 1 1000000 4096 decimals 2
 redraw, 1, --decimals, 7 -> usage
 redraw, --two-views, 3 -> redraw 3 1 1000000 4096 two
 redraw, --two-views -> usage
+redraw, --sections, 3 -> redraw 3 1 1000000 4096 sections
 stl, 1 -> stl 1 1 1000000 4096
 stl, 1, --decimals, 2 -> usage
 stl, 2, --two-views -> stl 2 1 1000000 4096 two
+stl, 2, --sections -> stl 2 1 1000000 4096 sections
 prove -> prove 1 1000000 4096
 prove, --solids=7, --workers, 3, --nodes, 5 -> prove 3 5 7
 prove, --decimals, 0 -> usage
 prove, --pages -> usage
 prove, 1 -> usage
 prove, --two-views, --nodes=5 -> prove 1 5 4096 two
+prove, --sections -> usage
 check -> check
 check, --two-views -> check two
+check, --sections -> check sections
 check, --two-views, --two-views -> usage
 check, --two-views, 2 -> usage
 check, 1 -> usage
@@ -156,9 +165,11 @@ ask, --decimals, 0 -> usage
 ask, --pages -> usage
 ask, 1 -> usage
 ask, --two-views, --nodes, 5 -> ask 1 5 4096 two
+ask, --sections -> usage
 blocks -> blocks
 blocks, --decimals, 6 -> blocks decimals 6
 blocks, --two-views, --decimals=2 -> blocks decimals 2 two
+blocks, --sections -> usage
 blocks, --decimals, 7 -> usage
 blocks, --workers, 2 -> usage
 blocks, --nodes=3 -> usage
@@ -227,6 +238,11 @@ fn push_reading(text: &mut String, decimals: u8, two_views: bool) -> Result<(), 
     Ok(text.push_str(if two_views { " two" } else { "" })?)
 }
 
+/// Adds whether sections are read.
+fn push_sections(text: &mut String, sections: bool) -> Result<(), Fail> {
+    Ok(text.push_str(if sections { " sections" } else { "" })?)
+}
+
 /// Adds a search for all solids, with pages or without.
 fn push_solve(
     text: &mut String,
@@ -279,28 +295,44 @@ fn push_job(text: &mut String, job: Job) -> Result<(), Fail> {
             pages,
             decimals,
             two_views,
-        } => push_solve(text, workers, limits, pages, decimals, two_views),
+            sections,
+        } => {
+            push_solve(text, workers, limits, pages, decimals, two_views)?;
+            push_sections(text, sections)
+        }
         Job::Redraw {
             which,
             workers,
             limits,
             decimals,
             two_views,
-        } => push_one(text, "redraw", which, workers, limits, decimals, two_views),
+            sections,
+        } => {
+            push_one(text, "redraw", which, workers, limits, decimals, two_views)?;
+            push_sections(text, sections)
+        }
         Job::Stl {
             which,
             workers,
             limits,
             two_views,
-        } => push_one(text, "stl", which, workers, limits, 0, two_views),
+            sections,
+        } => {
+            push_one(text, "stl", which, workers, limits, 0, two_views)?;
+            push_sections(text, sections)
+        }
         Job::Prove {
             workers,
             limits,
             two_views,
         } => push_searched(text, "prove", workers, limits, two_views),
-        Job::Check { two_views } => {
+        Job::Check {
+            two_views,
+            sections,
+        } => {
             text.push_str("check")?;
-            push_reading(text, 0, two_views)
+            push_reading(text, 0, two_views)?;
+            push_sections(text, sections)
         }
         Job::Ask {
             workers,

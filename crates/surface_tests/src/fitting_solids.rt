@@ -5,6 +5,7 @@ use dxf_entities::entities;
 use dxf_groups::Groups;
 use fit_lanes::FurtherSieve;
 use further_views::{AskedView, Cut, Further, Layer};
+use page_calls::Sieve;
 use six_views::fits;
 use solid_model::{Problem, View, ViewLines};
 use std::alloc::Global;
