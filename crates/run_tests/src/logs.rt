@@ -159,7 +159,8 @@ fn logs_are_checked(rt: HostRuntime) -> Result<(), Fail> {
 
 /// A file with the log behind it that `prove` writes for it.
 pub fn log_behind<R: Runtime>(rt: &R, file: String) -> Result<String, Fail> {
-    let proof = run_words(rt, "prove|", file.try_clone()?)?;
+    let copy = String::from_str(rt.alloc(), file.as_str())?;
+    let proof = run_words(rt, "prove|", copy)?;
     let log = proof.as_str().strip_prefix("0 ").ok_or("a log")?;
     let mut file = file;
     file.push_str(log)?;
