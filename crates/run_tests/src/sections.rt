@@ -29,7 +29,7 @@ SECTION_BOTTOM_01, rect S 1 0 2 1, SECTION_BOTTOM_1, rect S 0 1 1 2; solve|--sec
     0 whole 1 nodes 23 blocks 8|solid 1 choice 01101001 .. 
 SECTION_SIDE_1, rect S 0 0 1 1, rect S 1 1 2 2, rect D 0 0 2 2; solve|--sections| -> \
     0 whole 1 nodes 23 blocks 8|solid 1 choice 10010110 .. 
-SECTION_SIDE_1.5, rect S 0 0 1 1, rect S 1 1 2 2; solve|--sections|--decimals|1| -> \
+SECTION_SIDE_0.5, rect S 0 0 1 1, rect S 1 1 2 2; solve|--sections|--decimals|1| -> \
     0 whole 1 nodes 23 blocks 8|solid 1 choice 10010110 .. 
 SECTION_SIDE_1.5, rect S 0 0 1 1; solve|--sections| -> 1 fault F20 SectionName line .. 
 SECTION_FRONT, rect S 0 0 1 1; solve|--sections| -> 1 fault F20 SectionName line .. 
@@ -54,7 +54,7 @@ SECTION_LEFT_1, rect S 0 0 1 1, rect S 1 1 2 2; --sections| -> \
     0 yes 2 of 3|choice 1 .. choice 10010110 .. 
 SECTION_FRONT_1, rect S 0 0 2 2; --sections| -> 0 yes 0 of 3
 LEFT, line S 3 3 3 3; --sections| -> 0 yes 3 of 3|choice .. 
-SECTION_FRONT_1, rect S 0 0 2 2; -> 0 yes 3|choice .. ";
+SECTION_FRONT_1, rect S 0 0 2 2; --two-views| -> 0 yes 3|choice .. ";
 
 /// The quartered cube with further strokes.
 fn quartered(alloc: Global, strokes: &str) -> Result<String, AllocError> {
