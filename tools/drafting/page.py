@@ -19,7 +19,7 @@ import pathlib
 import re
 from collections.abc import Iterator
 
-from . import answering, asking, blocks, follow, program, sheet, shown
+from . import answering, asking, blocks, follow, program, reading, sheet, shown
 from .answers import CUT, FAULT, Answer, answer_of, text_of
 from .blocks import Blocks
 from .drawing import decimals_of, lines_within, missing_in, origin_of, views_of
@@ -186,7 +186,7 @@ def events_of(arguments: argparse.Namespace) -> Iterator[Event]:
         return map(json.loads, pathlib.Path(arguments.events).read_text().splitlines())
     if not arguments.answer:
         return told_by_program(arguments)
-    data, text = pathlib.Path(arguments.drawing).read_bytes(), text_of(arguments.answer)
+    data, text = reading.dxf_of(arguments.drawing), text_of(arguments.answer)
     lines, answer = lines_within(data), answer_of(text)
     return answer_told(lines, text, blocks.of(arguments, data, lines, answer.decimals) if answer.solids else None)
 

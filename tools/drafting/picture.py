@@ -11,10 +11,10 @@ import math
 from collections.abc import Callable, Iterator, Mapping
 from typing import NamedTuple
 
-from . import asking, program, seen
+from . import asking, program, reading, seen
 from .answers import CUT, FAULT, Point, Solid, answer_of, text_of
 from .cells import Grid, grid_round
-from .drawing import Line, Place, lines_of, origin_of, views_of
+from .drawing import Line, Place, lines_within, origin_of, views_of
 from .given import Given, given_in
 from .kept import LACKING, outcome
 from .messages import Refused, write_result
@@ -155,9 +155,9 @@ class Beside(NamedTuple):
 
 def picture(views: dict[str, list[Line]], text: str | None, marked: int | None = None) -> Iterator[str]:
     """The picture of some views and of an answer; the lines of the views that a number of the file tells are marked."""
+    if not any(views.values()):
+        raise Refused("no line is on the layer FRONT, TOP or SIDE: of a sheet `draft sheet` draws the views")
     answer = None if text is None else answer_of(text, MOST_SOLIDS)
-    if not any(views.values()) and not (answer and FAULT.fullmatch(answer.head)):
-        raise Refused("no line of a view is in the drawing")
     beside = Beside(len(answer.solids), functools.partial(solids_drawn, answer.solids), note_on(answer.head, answer.listed, len(answer.solids))) if answer else None
     return whole_picture(views, beside, marked)
 
@@ -219,7 +219,7 @@ def add_arguments(parser: argparse.ArgumentParser) -> None:
 
 
 def run(arguments: argparse.Namespace) -> int:
-    text, lines = text_of(arguments.answer) if arguments.answer else None, lines_of(arguments.drawing)
+    text, lines = text_of(arguments.answer) if arguments.answer else None, lines_within(reading.dxf_of(arguments.drawing))
     given = given_in(lines)
     rows = rounded_picture(lines, given, text) if given else picture(views_of(lines), text)
     write_result("".join(f"{line}\n" for line in rows), arguments.output)

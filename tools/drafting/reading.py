@@ -19,6 +19,7 @@ if TYPE_CHECKING:
 # The most bytes of a file, entities that are looked at in it with its blocks taken apart, and blocks within blocks.
 MOST_BYTES, MOST_ENTITIES, DEEPEST = 64 << 20, 1_000_000, 16
 
+BINARY = b"AutoCAD Binary DXF"
 POLYLINES = ("LWPOLYLINE", "POLYLINE")
 CURVES = (
     "ARC", "CIRCLE", "ELLIPSE", "SPLINE", "HELIX", "SOLID", "TRACE", "3DFACE", "MLINE", "REGION", "BODY", "3DSOLID", "SURFACE", "MESH",
@@ -160,11 +161,8 @@ def library() -> Any:
 def opened(path: str) -> tuple[Any, str]:
     """The document of a file, and what had to be mended in it."""
     ezdxf, recover = library()
-    data = data_of(path)
-    is_binary = data.startswith(b"AutoCAD Binary DXF")
-    if not is_binary and not re.search(rb"^[ \t]*0[ \t\r]*\n[ \t]*SECTION", data, re.M | re.I):
-        raise Refused(f"{pathlib.Path(path).name} is {kinds.told(data) or 'no DXF file: no section begins in it'}")
-    version = None if is_binary else version_needed(data)
+    data = dxf_of(path)
+    version = None if data.startswith(BINARY) else version_needed(data)
     if version is None:
         try:
             return ezdxf.readfile(path), ""
@@ -181,14 +179,16 @@ def opened(path: str) -> tuple[Any, str]:
     return document, f"the file is broken: ezdxf mended {many(mended, 'fault')}" if mended and version is None else ""
 
 
-def data_of(path: str) -> bytes:
-    """The bytes of a file that isn't empty, nor too long."""
+def dxf_of(path: str) -> bytes:
+    """The bytes of a DXF file; refused where it is empty, too long, or something else."""
     size = pathlib.Path(path).stat().st_size
     if size > MOST_BYTES:
         raise Refused(f"{pathlib.Path(path).name} has {size:,} bytes, more than {MOST_BYTES:,}")
     data = pathlib.Path(path).read_bytes()
     if not data.strip():
         raise Refused(f"{pathlib.Path(path).name} is empty")
+    if not data.startswith(BINARY) and not re.search(rb"^[ \t]*0[ \t\r]*\n[ \t]*SECTION", data, re.M | re.I):
+        raise Refused(f"{pathlib.Path(path).name} is {kinds.told(data) or 'no DXF file: no section begins in it'}")
     return data
 
 
@@ -209,7 +209,7 @@ def version_needed(data: bytes) -> bytes | None:
 
 def check_lines(path: str, document: Any) -> None:
     """Refuses a document of an ASCII file whose lines and polylines ezdxf reads otherwise than the file has them."""
-    if pathlib.Path(path).read_bytes()[:18] == b"AutoCAD Binary DXF":
+    if pathlib.Path(path).read_bytes().startswith(BINARY):
         return
     told: Counter[tuple[str, str, str, int, bool]] = Counter()
     for entry in entries_of(lines_of(path)):

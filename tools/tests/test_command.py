@@ -43,3 +43,21 @@ class Command(unittest.TestCase):
             ended = draft("picture", EXAMPLES / "bracket.dxf", EXAMPLES / "bracket.txt", "--output", out)
             self.assertEqual(ended, (0, "", ""))
             self.assertEqual(out.read_text(), draft("picture", EXAMPLES / "bracket.dxf", EXAMPLES / "bracket.txt").out)
+
+    def test_what_is_no_drawing_gives_no_page_and_no_picture(self) -> None:
+        """A file that is empty or something else is refused, also with the program's fault as its answer; of what has no view nothing is drawn."""
+        rows = {"empty": (b"", "is empty"), "text": (b"hello\nworld\n", "is no DXF file"), "picture": (b"\x89PNG\r\n\x1a\n\0", "is a PNG picture"),
+                "no_view": (b"0\nSECTION\n2\nENTITIES\n0\nENDSEC\n0\nEOF\n", "no line is on the layer FRONT, TOP or SIDE")}
+        with tempfile.TemporaryDirectory() as folder:
+            fault = pathlib.Path(folder) / "fault.txt"
+            fault.write_text("fault F4 NoEof line 1\n")
+            for name, (data, words) in rows.items():
+                file = pathlib.Path(folder) / f"{name}.dxf"
+                file.write_bytes(data)
+                for name_of, *more in (("picture",), ("picture", fault), ("page", fault)):
+                    if (name, name_of) == ("no_view", "page"):
+                        continue
+                    with self.subTest(name, command=name_of, more=more):
+                        ended = draft(name_of, file, *more)
+                        self.assertEqual((ended.status, ended.out), (1, ""), ended.said)
+                        self.assertIn(words, ended.said)
