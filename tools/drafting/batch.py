@@ -41,6 +41,8 @@ HELP = "rows of `draft table`, which runs it"
 MEMORY = 4_096
 # By how much a worker's memory may grow before the next drawing has a new one.
 GROWN = 256 << 20
+# How many more objects there may be before those are looked for that are left.
+SELDOM = 1_000_000
 # What a worker may take to end by itself, once the program has run out of its time.
 GRACE = 5.0
 # How often the small sheet is drawn by which a batch begins.
@@ -149,8 +151,8 @@ def answer_all(channel: socket.socket, arguments: argparse.Namespace) -> NoRetur
         resource.setrlimit(resource.RLIMIT_CORE, (0, 0))
         if arguments.memory:
             resource.setrlimit(resource.RLIMIT_AS, (arguments.memory << 20,) * 2)
-        # What one drawing leaves is collected behind it, and not while it is read.
-        gc.disable()
+        # What a drawing leaves is collected behind it, and seldom while it is read.
+        gc.set_threshold(SELDOM)
         with channel.makefile("rw") as lines:
             for line in lines:
                 folder, name = json.loads(line)
