@@ -1,5 +1,6 @@
-"""Asks recon about a batch of drawings in one process, as `draft table` has it run on this machine and on others. Each drawing is read
-and asked in a fork with limits of its own: one that crashes, or runs out of time or memory, costs itself alone.
+"""Asks recon about a batch of drawings, as `draft table` has it run on this machine and on others. A worker, a fork with limits, reads and
+asks one after another. One that crashes, or runs out of time or memory, costs itself alone: it takes no other's worker along, since the
+next has a new one, and what fails behind others is asked again by a new one too.
 
 Standard input is the batch: a line of JSON with the options of `draft solve` that hold for it, one for each drawing, and an empty line
 without which it isn't whole. A drawing is in a file of this machine, or its bytes come along; what is written then goes to a
@@ -19,11 +20,12 @@ import secrets
 import select
 import shutil
 import signal
+import socket
 import sys
 import tempfile
 import time
 import zlib
-from collections.abc import Iterator
+from collections.abc import Generator, Iterator
 from typing import Any, NamedTuple, NoReturn
 
 from . import asking, faults, messages, program, records, sheet, sums
@@ -31,13 +33,17 @@ from .answers import CUT, FAULT, answer_of
 from .drawing import VIEWS, places_of, written
 from .given import given_in
 from .messages import Refused
-from .rows import FAILED, LOST, REFUSED
+from .rows import FAILED, LOST, REFUSED, Row
 
 NAME = "batch"
 HELP = "rows of `draft table`, which runs it"
 
 MEMORY = 4_096
-# What a process may take to end by itself, once the program has run out of its time.
+# By how much a worker's memory may grow before the next drawing has a new one.
+GROWN = 256 << 20
+# How many more objects there may be before those are looked for that are left.
+SELDOM = 1_000_000
+# What a worker may take to end by itself, once the program has run out of its time.
 GRACE = 5.0
 # How often the small sheet is drawn by which a batch begins.
 WARM = 3
@@ -111,10 +117,11 @@ def message_of(asked: asking.Asked, warnings: list[str]) -> tuple[str, int | Non
     return "; ".join([*said, *warnings]), answer.listed
 
 
-def row_of(path: str, arguments: argparse.Namespace) -> dict[str, Any]:
-    """The answer about a file, or why there is none."""
+def row_of(folder: str, path: str, arguments: argparse.Namespace) -> Row:
+    """The answer about a file, or why there is none. It is read in its folder, by its name alone, which messages then have."""
     notes, named = records.Notes(), argparse.Namespace(**vars(arguments), drawing=path)
     try:
+        os.chdir(folder)
         asked = asking.ask(path, arguments, notes.take)
         message, solids = message_of(asked, [str(note) for note in notes if note.kind == "warning"])
         given = given_in(asked.lines)
@@ -132,8 +139,10 @@ def row_of(path: str, arguments: argparse.Namespace) -> dict[str, Any]:
         return {"status": FAILED, "message": " ".join(f"reading it failed: {type(failure).__name__}: {failure}".split())[:300]}
 
 
-def answer(out: int, drawing: Drawing, folder: str, arguments: argparse.Namespace) -> NoReturn:
-    """Writes the row of a drawing into a pipe, from a process of its own, which ends. It is read by its name alone, which messages then have."""
+# ---- a worker
+
+def answer_all(channel: socket.socket, arguments: argparse.Namespace) -> NoReturn:
+    """Writes the row of each drawing that is named, in a process of its own, which ends once no more can come."""
     status = 1
     try:
         os.setpgid(0, 0)
@@ -142,54 +151,106 @@ def answer(out: int, drawing: Drawing, folder: str, arguments: argparse.Namespac
         resource.setrlimit(resource.RLIMIT_CORE, (0, 0))
         if arguments.memory:
             resource.setrlimit(resource.RLIMIT_AS, (arguments.memory << 20,) * 2)
-        os.chdir(folder)
-        with open(out, "w") as pipe:
-            json.dump(row_of(os.path.basename(drawing.file), arguments), pipe)
+        # What a drawing leaves is collected behind it, and seldom while it is read.
+        gc.set_threshold(SELDOM)
+        with channel.makefile("rw") as lines:
+            for line in lines:
+                folder, name = json.loads(line)
+                print(json.dumps(row_of(folder, name, arguments)), file=lines, flush=True)
+                gc.collect()
         status = 0
     finally:
         os._exit(status)
 
 
-def row_apart(drawing: Drawing, folder: str, arguments: argparse.Namespace) -> dict[str, Any]:
-    """The row of a drawing, by a process that is gone afterwards, with all that it began."""
-    began = time.monotonic()
-    ours, theirs = os.pipe()
-    process = os.fork()
-    if not process:
-        answer(theirs, drawing, folder, arguments)
-    told = None
-    try:
-        os.close(theirs)
-        told = written_within(ours, arguments.seconds + GRACE)
-    finally:
-        code = end(process, told is not None)
-        os.close(ours)
-    row: dict[str, Any] = {"status": FAILED, "message": f"reading it took longer than {arguments.seconds:g} seconds"}
-    if told is not None:
+class Worker:
+    """A process that reads drawings and asks about them, one at a time."""
+
+    def __init__(self, arguments: argparse.Namespace) -> None:
+        self.seconds = arguments.seconds
+        self.code: int | None = None
+        self.channel, its = socket.socketpair()
+        self.process = os.fork()
+        if not self.process:
+            self.channel.close()
+            answer_all(its, arguments)
+        its.close()
+        self.is_new, self.size = True, self.size_now()
+
+    def size_now(self) -> int:
+        """How many bytes of memory it holds."""
+        return int(pathlib.Path(f"/proc/{self.process}/statm").read_text().split()[1]) * resource.getpagesize()
+
+    def row(self, folder: str, name: str) -> Row:
+        """The row of a drawing, whatever becomes of the worker."""
+        self.is_new = False
+        with contextlib.suppress(ConnectionError):
+            self.channel.sendall(json.dumps([folder, name]).encode() + b"\n")
+        told = line_within(self.channel, self.seconds + GRACE)
+        if told is None:
+            return {"status": FAILED, "message": f"reading it took longer than {self.seconds:g} seconds"}
+        if told.endswith(b"\n"):
+            row: Row = json.loads(told)
+            return row
+        code = self.end(is_done=True)
         how = f"was ended by {signal.Signals(-code).name}" if code < 0 else f"ended with status {code}"
-        row = json.loads(told) if code == 0 else {"status": FAILED, "message": f"reading it {how}"}
-    return {"solids": None, "rounds": None, **row, "number": drawing.number, "seconds": round(time.monotonic() - began, 2), "machine": MACHINE}
+        return {"status": FAILED, "message": f"reading it {how}"}
+
+    def end(self, is_done: bool = False) -> int:
+        """Ends it, unless it comes to its end by itself, and all that it began; with which status it ended, or by which signal, below 0."""
+        if self.code is None:
+            self.code = ended(self.process, is_done)
+            self.channel.close()
+        return self.code
 
 
-def written_within(pipe: int, seconds: float) -> bytes | None:
-    """What is written into a pipe up to its end; none where that takes longer."""
+def line_within(channel: socket.socket, seconds: float) -> bytes | None:
+    """A line that comes, or what came up to an end; none where that takes longer."""
     until, told = time.monotonic() + seconds, b""
-    while select.select([pipe], [], [], max(0.0, until - time.monotonic()))[0]:
-        new = os.read(pipe, 1 << 16)
-        if not new:
-            return told
+    while select.select([channel], [], [], max(0.0, until - time.monotonic()))[0]:
+        try:
+            new = channel.recv(1 << 16)
+        except ConnectionError:
+            new = b""
         told += new
+        if not new or new.endswith(b"\n"):
+            return told
     return None
 
 
-def end(process: int, is_done: bool) -> int:
-    """Ends a process, unless it comes to its end by itself, and all that it began; with which status it ended, or by which signal, below 0."""
+def ended(process: int, is_done: bool) -> int:
+    """Ends a process, unless it comes to its end by itself, and its group; with which status it ended, or by which signal, below 0."""
     if not is_done:
         os.kill(process, signal.SIGKILL)
     os.waitid(os.P_PID, process, os.WEXITED | os.WNOWAIT)
     with contextlib.suppress(ProcessLookupError, PermissionError):
         os.killpg(process, signal.SIGKILL)
     return os.waitstatus_to_exitcode(os.waitpid(process, 0)[1])
+
+
+class Workers:
+    """One worker at a time: the same as long as nothing fails in it and it doesn't grow."""
+
+    def __init__(self, arguments: argparse.Namespace) -> None:
+        self.arguments = arguments
+        self.worker: Worker | None = None
+
+    def row(self, drawing: Drawing, folder: str) -> Row:
+        began = time.monotonic()
+        worker = self.worker = self.worker or Worker(self.arguments)
+        is_new, row = worker.is_new, worker.row(folder, os.path.basename(drawing.file))
+        if row["status"] == FAILED or worker.size_now() > worker.size + GROWN:
+            self.close()
+        if row["status"] == FAILED and not is_new and time.monotonic() - began < self.arguments.seconds:
+            return self.row(drawing, folder)
+        told = {"number": drawing.number, "seconds": round(time.monotonic() - began, 2), "machine": MACHINE}
+        return {"solids": None, "rounds": None, **row, **told}
+
+    def close(self) -> None:
+        """Ends the worker: the next drawing has a new one."""
+        if self.worker:
+            self.worker.end()
+        self.worker = None
 
 
 # ---- the batch
@@ -221,20 +282,21 @@ def warm(room: str) -> None:
     os.unlink(file)
 
 
-def rows_of(lines: list[bytes], room: str) -> Iterator[dict[str, Any]]:
+def rows_of(lines: list[bytes], room: str) -> Generator[Row, None, None]:
     arguments = options().parse_args(json.loads(lines[0])["words"])
     if not arguments.as_is:
         warm(room)
-    # What is there by now needn't be looked at, and so copied, by a fork that collects what it left.
+    # What is there by now needn't be looked at, and so copied, by a worker that collects what a drawing left.
     gc.freeze()
-    for drawing in map(drawing_of, lines[1:-1]):
-        with folder_of(drawing, room) as folder:
-            row = row_apart(drawing, folder, arguments)
-        if drawing.data is not None and row["status"] == LOST:
-            raise Refused(f"what came along {row['message']}")
-        if drawing.data is None and row["status"] != LOST and not drawing.is_unchanged():
-            row.update(status=LOST, solids=None, message=CHANGED)
-        yield row
+    with contextlib.closing(Workers(arguments)) as workers:
+        for drawing in map(drawing_of, lines[1:-1]):
+            with folder_of(drawing, room) as folder:
+                row = workers.row(drawing, folder)
+            if drawing.data is not None and row["status"] == LOST:
+                raise Refused(f"what came along {row['message']}")
+            if drawing.data is None and row["status"] != LOST and not drawing.is_unchanged():
+                row.update(status=LOST, solids=None, message=CHANGED)
+            yield row
 
 
 def pass_over_stops() -> None:
@@ -263,8 +325,9 @@ def run(arguments: argparse.Namespace) -> int:
     atexit.register(shutil.rmtree, room, ignore_errors=True)
     os.mkdir(room, 0o700)
     try:
-        for row in rows_of(text.splitlines(), room):
-            print(json.dumps(row), flush=True)
+        with contextlib.closing(rows_of(text.splitlines(), room)) as rows:
+            for row in rows:
+                print(json.dumps(row), flush=True)
     finally:
         pass_over_stops()
     return 0

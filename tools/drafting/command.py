@@ -1,14 +1,14 @@
 """The arguments, commands and statuses of `draft`."""
 import argparse
 import importlib
-import importlib.metadata
 import os
 import platform
 import sys
 import textwrap
 from types import ModuleType
+from typing import NoReturn
 
-from . import __version__
+from . import __version__, sums
 from .files import with_standard_input
 from .messages import Progress, Refused, Usage, say
 
@@ -40,14 +40,13 @@ def commands(word: str = "") -> list[ModuleType]:
     return [importlib.import_module(f".{name}", __package__) for name in ([word] if word in MODULES else MODULES)]
 
 
-def versions() -> str:
-    """The version of this program and of what it stands on."""
-    found = [f"Python {platform.python_version()}"]
-    try:
-        found.append(f"ezdxf {importlib.metadata.version('ezdxf')}")
-    except importlib.metadata.PackageNotFoundError:
-        found.append("no ezdxf")
-    return f"draft {__version__} ({', '.join(found)})"
+class Versions(argparse.Action):
+    """Tells the version of this program and of what it stands on, which is looked for then alone: that takes a while."""
+
+    def __call__(self, parser: argparse.ArgumentParser, *_: object) -> NoReturn:
+        ezdxf = sums.version_of_ezdxf()
+        print(f"draft {__version__} (Python {platform.python_version()}, {f'ezdxf {ezdxf}' if ezdxf else 'no ezdxf'})")
+        parser.exit()
 
 
 def parser_of(modules: list[ModuleType]) -> argparse.ArgumentParser:
@@ -55,7 +54,7 @@ def parser_of(modules: list[ModuleType]) -> argparse.ArgumentParser:
         prog="draft", description="Programs round recon, for drawings as people make them.", epilog=EPILOG, allow_abbrev=False,
         formatter_class=Help,
     )
-    parser.add_argument("--version", action="version", version=versions())
+    parser.add_argument("--version", action=Versions, nargs=0, help="show program's version number and exit")
     choices = parser.add_subparsers(dest="command", metavar="COMMAND", required=True)
     for module in modules:
         one = choices.add_parser(

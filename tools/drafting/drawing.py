@@ -81,8 +81,8 @@ def lines_within(data: bytes) -> list[str]:
 
 
 def lines_in(data: bytes) -> list[str]:
-    lines = data.decode("utf-8-sig", errors="replace").removesuffix("\n").split("\n")
-    return [line.removesuffix("\r").strip(" \t") for line in lines]
+    text = data.decode("utf-8-sig", errors="replace").removesuffix("\n").replace("\r\n", "\n").removesuffix("\r")
+    return [line.strip(" \t") for line in text.split("\n")]
 
 
 @functools.lru_cache(maxsize=2048)
@@ -119,24 +119,36 @@ def entries_of(lines: list[str]) -> Iterable[Entry]:
 
 
 def entries_within(lines: list[str]) -> Iterator[Entry]:
-    section, foreign, last = "", False, 0
-    begun: tuple[str, str, list[tuple[int, str]], dict[int, str], int] | None = None
-    for number, code, value in pairs_of(lines):
-        if code == 0:
-            if begun:
-                yield Entry(*begun, last)
-            begun, foreign = (section, value.upper(), [], {}, number), False
-        elif begun:
-            foreign = foreign or code == 102 and value.startswith("{")
-            if not foreign and code != 999:
-                begun[2].append((code, value))
-                begun[3].setdefault(code, value)
-            foreign = foreign and not (code == 102 and value == "}")
-            if code == 2 and begun[1] == "SECTION":
-                section = value.upper()
-        last = number + 1
-    if begun:
-        yield Entry(*begun, last)
+    codes, values = codes_of(lines), lines[1::2]
+    begins = [at for at, code in enumerate(codes) if code == 0]
+    section = ""
+    for at, behind in zip(begins, [*begins[1:], len(codes)]):
+        name, within = values[at].upper(), section
+        if name == "EOF":
+            return
+        pairs = list(zip(codes[at + 1:behind], values[at + 1:behind]))
+        if name == "SECTION":
+            section = next((value.upper() for code, value in reversed(pairs) if code == 2), section)
+        if any(code in (102, 999) for code, _ in pairs):
+            pairs = own_of(pairs)
+        yield Entry(within, name, pairs, dict(reversed(pairs)), 2 * at + 1, 2 * behind)
+
+
+def codes_of(lines: list[str]) -> list[int]:
+    """The codes of a drawing's pairs up to what is no pair."""
+    codes = list(map(code_of, lines[0:len(lines) - 1:2]))
+    return [code for code in codes[:codes.index(None) if None in codes else None] if code is not None]
+
+
+def own_of(pairs: list[tuple[int, str]]) -> list[tuple[int, str]]:
+    """The pairs of an entry without comments and without what belongs to an application."""
+    own, foreign = [], False
+    for code, value in pairs:
+        foreign = foreign or code == 102 and value.startswith("{")
+        if not foreign and code != 999:
+            own.append((code, value))
+        foreign = foreign and not (code == 102 and value == "}")
+    return own
 
 
 def points_of(entry: Entry) -> list[Place]:

@@ -19,7 +19,7 @@ from .rows import FAILED, LOST, REFUSED, Row, Rows, key_of
 
 # The most drawings of a batch in each pass; the batches that few drawings are cut into, and how many of them a processor here has at least,
 # for each machine.
-MOST, BATCHES, SHARES = (100, 10), 16, 4
+MOST, BATCHES, SHARES = (100, 10), 8, 2
 # The most bytes of a batch that is sent; the most rounds, and how much smaller the batches of the next one are.
 MOST_SENT, ROUNDS, SMALLER = 8 << 20, 4, 8
 # How often it is told how far a table is, on no terminal.

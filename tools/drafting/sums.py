@@ -1,6 +1,5 @@
 """What answers stand on, by sums: where these are the same on two machines, so are the answers."""
 import hashlib
-import importlib.metadata
 import pathlib
 
 HERE = pathlib.Path(__file__).resolve().parent
@@ -15,11 +14,16 @@ def of_files(files: list[pathlib.Path]) -> str:
     return found.hexdigest()
 
 
+def version_of_ezdxf() -> str:
+    """The version of ezdxf; nothing where it isn't there."""
+    from importlib import metadata  # which takes longer to begin than all else here
+    try:
+        return metadata.version("ezdxf")
+    except metadata.PackageNotFoundError:
+        return ""
+
+
 def of(program: pathlib.Path) -> dict[str, str]:
     """The sums of the program and of `draft`, and the version of ezdxf."""
-    try:
-        version = importlib.metadata.version("ezdxf")
-    except importlib.metadata.PackageNotFoundError:
-        version = "none"
     own = sorted(file for file in HERE.iterdir() if file.suffix in (".py", ".lp"))
-    return {"recon": hashlib.sha256(program.read_bytes()).hexdigest(), "draft": of_files(own), "ezdxf": version}
+    return {"recon": hashlib.sha256(program.read_bytes()).hexdigest(), "draft": of_files(own), "ezdxf": version_of_ezdxf() or "none"}
