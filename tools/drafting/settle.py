@@ -290,7 +290,7 @@ def case_of(arguments: argparse.Namespace) -> Case:
         if given_in(case.lines):
             say("draft settle: warning: the drawing has its rounds squared off, and of the solids of the answer not all may be kept")
     else:
-        asked = asking.ask(arguments.drawing, arguments, lambda text: say(f"draft settle: {text}"))
+        asked = asking.ask(arguments.drawing, arguments, lambda note: say(f"draft settle: {note}"))
         case = of_asked(asked)
         if asked.origin.mirrored and not asked.paper:
             say("draft settle: warning: the sheet shows the part in a mirror, and what is told here is of the mirror image, x turned round")

@@ -9,15 +9,16 @@ from collections.abc import Iterator, Mapping, Sequence
 from fractions import Fraction
 from typing import NamedTuple
 
-from . import cones, given, rounds, sheet, tangent
+from . import cones, given, noted, rounds, sheet, tangent
 from .cutting import Mark
 from .drawing import VIEWS, Place
 from .given import Cone, Given, Stretch
 from .groups import Group, frames, holds, merged, pieces_of
 from .messages import Refused, many
+from .noted import Note, Tell
 from .panels import FRAMES
 from .placing import Placed
-from .reading import Arc, Box, Edge, Sheet, Unread
+from .reading import Arc, Box, Edge, Sheet, Unread, thing_of
 from .rounds import OF_ONE, Move, Round, Squares, box_of, is_level, is_straight
 from .straight import Measure, Run, runs_of
 from .tangent import Reading, Views
@@ -158,7 +159,7 @@ def arcs_beside(edges: Sequence[Edge], arcs: Sequence[Arc], curves: Sequence[Unr
     return kept, [arc for arc in arcs if not any(arc is it for it in kept)]
 
 
-def read(path: str | None, read_sheet: Sheet, marks: Sequence[Mark], arguments: argparse.Namespace, tell: sheet.Tell) -> Found:
+def read(path: str | None, read_sheet: Sheet, marks: Sequence[Mark], arguments: argparse.Namespace, tell: Tell) -> Found:
     """What is read of a sheet with arcs, and where its views are."""
     tolerance, edges, arcs = arguments.tolerance, read_sheet.edges, read_sheet.arcs
     if len(arcs) > MOST_ARCS:
@@ -173,18 +174,18 @@ def read(path: str | None, read_sheet: Sheet, marks: Sequence[Mark], arguments: 
         edges = evened(edges, arcs)
     kept, left = arcs_beside(edges, arcs, sheet.curves_of(read_sheet), tolerance)
     bare = [*edges, *rounds.bare_squares(rounds.rounds_of(kept, tolerance))]
-    placed = sheet.found_views(path, read_sheet, bare, marks, arguments, lambda text: None)
+    placed = sheet.found_views(path, read_sheet, bare, marks, arguments, noted.tell_none)
     if missing := [view for view in VIEWS if view not in placed.views]:
         raise Refused(f"{missing[0]} isn't drawn, and a sheet with circles or arcs is read where all three main views are there: draw it too")
     # What no reading changes is refused at once.
-    sheet.refuse_unread(path, placed, read_sheet.unread, arguments, lambda text: None)
+    sheet.refuse_unread(path, placed, read_sheet.unread, arguments, noted.tell_none)
     found, flanks = cones_in(placed, edges, rounds.rounds_of(kept, tolerance), tolerance)
     sheet.refuse_oblique(path, placed, flanks, NO_CONE)
     for arc in kept:
         if not any(holds(group.box, arc_box(arc), OF_ONE * tolerance) for group in placed.views.values()):
             left.append(arc)
-    counts = Counter(f"{arc.source.kind} on layer {arc.source.layer}, outside the views" for arc in left)
-    sheet.tell_counted(tell, "left out", counts)
+    for note in noted.counted("left out", Counter(thing_of(arc.source, "outside the views") for arc in left)):
+        tell(note)
     within = [arc for arc in kept if not any(arc is it for it in left)]
     return Found(path, read_sheet, marks, edges, within, placed, arguments, found, flanks)
 
@@ -246,14 +247,14 @@ def squared(found: Found, reading: Reading) -> tuple[list[Edge], Squares]:
     return lines, squares
 
 
-def measured(path: str | None, placed: Placed, times: Fraction, arguments: argparse.Namespace, tell: sheet.Tell) -> Measure:
+def measured(path: str | None, placed: Placed, times: Fraction, arguments: argparse.Namespace, tell: Tell) -> Measure:
     """How lengths become whole; rounded where they have no end."""
     try:
         return sheet.measured(path, placed, times, arguments, tell)
     except Refused as refusal:
         if "doesn't fit" not in str(refusal) or arguments.sheet_decimals is not None:
             raise
-        tell(f"changed: coordinates rounded to {ROUNDED} decimals, since they have no end")
+        tell(noted.changed(f"coordinates rounded to {ROUNDED} decimals, since they have no end"))
         return Measure(times, ROUNDED, 0.5 * 10**-ROUNDED)
 
 
@@ -310,14 +311,15 @@ def check_within(found: Found, placed: Placed) -> None:
                           "cones within them")
 
 
-def tell_cones(found: Found, tell: sheet.Tell) -> None:
+def tell_cones(found: Found, tell: Tell) -> None:
     for view in VIEWS:
         points = sum(it.end_radius == 0 for it in found.cones if it.view == view)
         steps = sum(it.end_radius > 0 for it in found.cones if it.view == view)
         if points:
-            tell(f"left out: of {view} {many(points, 'place')} where a hole may end in a cone to a point, which is put back")
+            tell(noted.left_out(f"of {view} {many(points, 'place')} where a hole may end in a cone to a point, which is put back", points, view))
         if steps:
-            tell(f"changed: of {view} {many(steps, 'cone')} between two circles squared off to {'a step' if steps == 1 else 'steps'}")
+            tell(noted.changed(f"of {view} {many(steps, 'cone')} between two circles squared off to {'a step' if steps == 1 else 'steps'}",
+                               steps, view))
 
 
 def doubts_of_cones(found: Found) -> list[str]:
@@ -326,7 +328,7 @@ def doubts_of_cones(found: Found) -> list[str]:
     return [f"{many(len(found.cones), 'place')} of cones in line may have them in more than {count} ways"] if count >= cones.MOST else []
 
 
-def drawn(found: Found, reading: Reading, number: tuple[int, int], tell: sheet.Tell) -> sheet.Drawn:
+def drawn(found: Found, reading: Reading, number: tuple[int, int], tell: Tell) -> sheet.Drawn:
     """The drawing of one reading of a sheet."""
     lines, squares = squared(found, reading)
     squares.doubts.extend(doubts_of_cones(found))
@@ -343,15 +345,18 @@ def drawn(found: Found, reading: Reading, number: tuple[int, int], tell: sheet.T
     for view in placed.views:
         circles = [it for it in told.rounds if it.view == view]
         if circles:
-            tell(f"changed: in {view} {many(len(circles), 'circle or round', 'circles or rounds')} squared off, of {radii_told(circles)}")
+            tell(noted.changed(f"in {view} {many(len(circles), 'circle or round', 'circles or rounds')} squared off, of {radii_told(circles)}",
+                               len(circles), view))
     tell_cones(found, tell)
     for stretch in told.smooth:
         way = "upright" if stretch.is_upright else "level"
-        tell(f"left out: in {stretch.view} the {way} line at {stretch.at:.6g} from {stretch.low:.6g} to {stretch.high:.6g}, taken as a tangent edge")
+        tell(noted.left_out(f"in {stretch.view} the {way} line at {stretch.at:.6g} from {stretch.low:.6g} to {stretch.high:.6g}, taken as a tangent edge",
+                            view=stretch.view))
     for text in squares.doubts[:MOST_TOLD]:
-        tell(f"warning: {text}: other solids may be missed")
+        tell(noted.warning(f"{text}: other solids may be missed"))
     if len(squares.doubts) > MOST_TOLD:
-        tell(f"warning: {many(len(squares.doubts) - MOST_TOLD, 'place')} more of this kind")
+        more = len(squares.doubts) - MOST_TOLD
+        tell(noted.warning(f"{many(more, 'place')} more of this kind", more))
     return sheet.drawn_views(found.path, found.sheet, placed, times, measure, found.arguments, tell, given.comments(told))
 
 
@@ -371,7 +376,7 @@ def drawings(found: Found) -> Iterator[sheet.Drawn | Refused]:
     if only is not None and not 1 <= only <= len(its):
         raise Refused(f"there is no reading {only}: {many(len(its), 'reading')} of this sheet")
     for number, reading in enumerate(its, 1):
-        notes: list[str] = []
+        notes: list[Note] = []
         if only in (None, number):
             try:
                 yield drawn(found, reading, (number, count), notes.append)._replace(notes=notes, is_plain=number <= count)
@@ -379,7 +384,7 @@ def drawings(found: Found) -> Iterator[sheet.Drawn | Refused]:
                 yield refusal
 
 
-def first(path: str | None, read_sheet: Sheet, marks: Sequence[Mark], arguments: argparse.Namespace, tell: sheet.Tell) -> sheet.Drawn:
+def first(path: str | None, read_sheet: Sheet, marks: Sequence[Mark], arguments: argparse.Namespace, tell: Tell) -> sheet.Drawn:
     """The drawing of the first reading of a sheet that has one, and those of the others."""
     found = read(path, read_sheet, marks, arguments, tell)
     if not found.arcs:
