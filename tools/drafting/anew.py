@@ -4,23 +4,24 @@ OpenCASCADE's hidden line removal, at full size, with hidden lines and without s
 A page that was taken before, by FreeCAD's window, is a folder: `taken_page.json` with labels, the frame and what was told, and `part.brep`.
 """
 import argparse
+import dataclasses
 import json
 import math
 import pathlib
-from collections.abc import Callable, Sequence
+from collections.abc import Sequence
 from typing import Any
 
-from . import curves
+from . import curves, noted
 from .bodies import read_back
 from .cad import FreeCAD, load, save
 from .compared import SHARP, SMOOTH, Projected, ends_of, projected
 from .documents import TAKEN, Page, View, check_options
 from .drawing import Place, places_of
 from .messages import Refused, many
+from .noted import Note, Tell
 from .reading import Arc, Box, Edge, Sheet, Source, Unread
 from .shapes import united
 
-Tell = Callable[[str], None]
 PART = "part.brep"
 # FreeCAD's own unit, whatever it shows lengths in.
 UNIT = "mm"
@@ -107,9 +108,10 @@ def joined(page: Page, tell: Tell) -> Page:
     if not part.isValid() or not part.Solids:
         raise Refused("what FreeCAD makes of the part is no valid solid: see it by Part, Check geometry")
     if len(solids) > 1:
-        tell(f"changed: {len(solids)} solids are taken as one part, without lines between those that touch")
+        tell(noted.changed(f"{len(solids)} solids are taken as one part, without lines between those that touch", len(solids)))
     elif (count := len(solids[0].Faces) - len(part.Faces)) > 0:
-        tell(f"changed: {many(count, 'face')} joined with others in their plane: the page draws lines between them, unless the shape is refined")
+        tell(noted.changed(f"{many(count, 'face')} joined with others in their plane: the page draws lines between them, unless the shape is refined",
+                           count))
     return page._replace(part=part)
 
 
@@ -130,7 +132,7 @@ def drawn(page: Page, with_hidden: bool, tell: Tell) -> Sheet:
             sheet.arcs += lines[name].arcs
             sheet.unread += lines[name].unread
     if smooth := sum(lines[view.name].smooth for view in page.views if view.has_smooth):
-        tell(f"left out: {many(smooth, 'smooth edge')}, which the page draws")
+        tell(noted.left_out(f"{many(smooth, 'smooth edge')}, which the page draws", smooth))
     sheet.page = page._replace(least=(spans[0][0], spans[1][0], spans[2][0]))
     return sheet
 
@@ -146,13 +148,13 @@ def sheet_of(path: str, arguments: argparse.Namespace, tell: Tell) -> Sheet:
     """The sheet of a page of a document, or of one that was taken before."""
     check_options(arguments, True)
     if pathlib.Path(path).name == TAKEN:
-        page, told = taken_in(path)
-        for text in told:
-            tell(text)
+        page, notes = taken_in(path)
+        for note in notes:
+            tell(note)
     else:
         from . import techdraw
         page = techdraw.read(path, arguments.sheet_page, arguments.part, tell)
-    tell("found: lengths in mm, FreeCAD's own unit")
+    tell(noted.found("lengths in mm, FreeCAD's own unit"))
     return drawn(joined(page, tell), not getattr(arguments, "visible_edges_alone", False), tell)
 
 
@@ -169,23 +171,24 @@ def placed(shape: Any, page: Page) -> Any:
 
 # ---- pages that were taken before
 
-def saved(page: Page, told: Sequence[str], folder: str) -> str:
+def saved(page: Page, notes: Sequence[Note], folder: str) -> str:
     """Keeps a page in a folder, and answers the file that stands for it."""
     save(page.part, str(pathlib.Path(folder, PART)))
-    text = {"label": page.label, "views": page.views, "frame": [tuple(it) for it in page.frame], "outer": page.outer.toMatrix().A, "told": list(told)}
+    text = {"label": page.label, "views": page.views, "frame": [tuple(it) for it in page.frame], "outer": page.outer.toMatrix().A,
+            "notes": list(map(dataclasses.asdict, notes))}
     path = pathlib.Path(folder, TAKEN)
     path.write_text(json.dumps(text))
     return str(path)
 
 
-def taken_in(path: str) -> tuple[Page, list[str]]:
+def taken_in(path: str) -> tuple[Page, list[Note]]:
     """A page that was kept, and what was told of it."""
     try:
         told = json.loads(pathlib.Path(path).read_text())
         views = tuple(View(*it) for it in told["views"])
         frame = tuple(FreeCAD.Vector(*it) for it in told["frame"])
         outer = FreeCAD.Placement(FreeCAD.Matrix(*told["outer"]))
-        rows = list(map(str, told["told"]))
+        notes = [Note(**it) for it in told["notes"]]
     except (ValueError, KeyError, TypeError):
         raise Refused(f"{path} isn't what FreeCAD's window keeps of a page") from None
-    return Page(told["label"], views, (frame[0], frame[1], frame[2]), load(str(pathlib.Path(path).with_name(PART))), outer), rows
+    return Page(told["label"], views, (frame[0], frame[1], frame[2]), load(str(pathlib.Path(path).with_name(PART))), outer), notes

@@ -3,23 +3,22 @@ import argparse
 import math
 import pathlib
 import re
-from collections.abc import Callable
 from fractions import Fraction
 from typing import NamedTuple
 
-from . import answering, documents, faults, files, program, sheet, trials
+from . import answering, documents, faults, files, noted, program, sheet, trials
 from .answering import Readings
 from .answers import Answer, answer_of, turned_back
 from .drawing import Origin, decimals_of, entries_of, lines_of, lines_within, missing_in, origin_of, passed_over, views_of
 from .given import given_in
 from .kept import Kept
 from .messages import Refused, Usage, option
+from .noted import Note, Tell
 from .pairs import TwoReadings
 from .panels import Sheet, sheet_of
 from .paper import Paper
 from .reading import Unreadable
 
-Tell = Callable[[str], None]
 # What recon passes over and a sheet is compared with: its sizes, and which views are sections.
 TELLING = ("DIMENSION", "HATCH")
 # Faults of a drawing of three layers which `draft sheet` may get round.
@@ -148,8 +147,8 @@ def ask(path: str | None, arguments: argparse.Namespace, tell: Tell, command: tu
     is_sheet = not arguments.as_is and (is_said_of_sheet(arguments) or not is_plain(lines))
     given = given_in(lines)
     if given and (is_sheet or arguments.as_is):
-        tell(f"warning: the drawing has its {given.kinds} squared off, and is taken as {'it is' if arguments.as_is else 'a sheet'}: what is told is of "
-             "squares")
+        tell(noted.warning(f"the drawing has its {given.kinds} squared off, and is taken as {'it is' if arguments.as_is else 'a sheet'}: what is told "
+                           "is of squares"))
         given = None
     if is_sheet and (asked := of_readable_sheet(path, lines, arguments, tell, command)) is not None:
         return asked
@@ -157,15 +156,15 @@ def ask(path: str | None, arguments: argparse.Namespace, tell: Tell, command: tu
     run = program.run(program.find(arguments.program), words, data, arguments.seconds)
     fault = faults.name_of(run.text.strip())
     if fault in SHEETS and not is_sheet and not arguments.as_is:
-        tell(f"found: recon doesn't take the file as it is: {run.text.strip()}")
+        tell(noted.found(f"recon doesn't take the file as it is: {run.text.strip()}"))
         if (asked := of_readable_sheet(path, lines, arguments, tell, command)) is not None:
             return asked
-    for text in passed_over_told(lines):
-        tell(f"warning: {text}")
+    for note in passed_over_told(lines):
+        tell(note)
     if not fault:
-        tell(f"found: recon reads the file as it is, with --decimals {decimals}")
+        tell(noted.found(f"recon reads the file as it is, with --decimals {decimals}"))
         if missing := missing_in(views_of(lines)):
-            tell(f"found: two views, without {missing}")
+            tell(noted.found(f"two views, without {missing}"))
     rounds = answering.of_drawing(sheet.Drawn(data.decode(), decimals, origin_of(lines)), given, ask_all(arguments)) if given and not fault else None
     return Asked(data, lines, decimals, origin_of(lines), run, None, rounds)
 
@@ -211,10 +210,10 @@ def decimals_words(command: tuple[object, ...], decimals: int) -> list[object]:
     return ["--decimals", decimals] if decimals and command[0] != "stl" else []
 
 
-def passed_over_told(lines: list[str]) -> list[str]:
-    """What lies within the views and isn't read, in words."""
-    return [f"{count} {kind} on layer {layer} {'lies' if count == 1 else 'lie'} within the views and {'was' if count == 1 else 'were'} not read"
-            for (layer, kind), count in passed_over(lines).items()]
+def passed_over_told(lines: list[str]) -> list[Note]:
+    """What lies within the views and isn't read."""
+    return [Note("warning", f"{count} {kind} on layer {layer} {'lies' if count == 1 else 'lie'} within the views and "
+                 f"{'was' if count == 1 else 'were'} not read", count, layer=layer, entity=kind) for (layer, kind), count in passed_over(lines).items()]
 
 
 def of_readable_sheet(path: str, lines: list[str], arguments: argparse.Namespace, tell: Tell, command: tuple[object, ...]) -> Asked | None:
@@ -225,23 +224,23 @@ def of_readable_sheet(path: str, lines: list[str], arguments: argparse.Namespace
     except Unreadable as cause:
         if is_said_of_sheet(arguments) or not any(views_of(lines).values()):
             raise
-        tell(f"warning: {cause}, so the program reads the file as it is")
+        tell(noted.warning(f"{cause}, so the program reads the file as it is"))
         return None
 
 
 def drawn_of(path: str | None, arguments: argparse.Namespace, tell: Tell) -> sheet.Drawn:
     """What a sheet is drawn as; of two views whose angle isn't told, in the one in which some solid has them, where none has in the other."""
-    said: list[str] = []
+    said: list[Note] = []
     try:
         return sheet.draw_readings(path, arguments, said.append)
     except TwoReadings as refusal:
         said.clear()
         known = angle_of(path, arguments, refusal)
-        said.append(f"found: two views, in {known.angle} angle, since in the other no solid has them")
+        said.append(noted.found(f"two views, in {known.angle} angle, since in the other no solid has them"))
         return sheet.draw_readings(path, known, said.append)
     finally:
-        for text in said:
-            tell(text)
+        for note in said:
+            tell(note)
 
 
 def angle_of(path: str | None, arguments: argparse.Namespace, refusal: TwoReadings) -> argparse.Namespace:
@@ -251,7 +250,7 @@ def angle_of(path: str | None, arguments: argparse.Namespace, refusal: TwoReadin
     outcomes = {}
     for angle in refusal.angles:
         known = argparse.Namespace(**{**vars(arguments), "angle": angle})
-        drawn = sheet.draw(path, known, lambda text: None)
+        drawn = sheet.draw(path, known, noted.tell_none)
         words = ["solve", program.TWO_VIEWS, *decimals_words(("solve",), drawn.decimals)]
         outcomes[angle] = known, trials.outcome(program.find(arguments.program), words, drawn.text.encode())
     fitting = [known for known, outcome in outcomes.values() if outcome.count or outcome.more]

@@ -28,11 +28,12 @@ import zlib
 from collections.abc import Generator, Iterator
 from typing import Any, NamedTuple, NoReturn
 
-from . import asking, faults, messages, program, records, sheet, sums
+from . import asking, faults, messages, noted, program, records, sheet, sums
 from .answers import CUT, FAULT, answer_of
 from .drawing import VIEWS, places_of, written
 from .given import given_in
 from .messages import Refused
+from .noted import Note
 from .rows import FAILED, LOST, REFUSED, Row
 
 NAME = "batch"
@@ -119,10 +120,11 @@ def message_of(asked: asking.Asked, warnings: list[str]) -> tuple[str, int | Non
 
 def row_of(folder: str, path: str, arguments: argparse.Namespace) -> Row:
     """The answer about a file, or why there is none. It is read in its folder, by its name alone, which messages then have."""
-    notes, named = records.Notes(), argparse.Namespace(**vars(arguments), drawing=path)
+    notes: list[Note] = []
+    named = argparse.Namespace(**vars(arguments), drawing=path)
     try:
         os.chdir(folder)
-        asked = asking.ask(path, arguments, notes.take)
+        asked = asking.ask(path, arguments, notes.append)
         message, solids = message_of(asked, [str(note) for note in notes if note.kind == "warning"])
         given = given_in(asked.lines)
         record = records.record(asked, named, notes, records.LISTED, with_faces=False)
@@ -278,7 +280,7 @@ def warm(room: str) -> None:
     pathlib.Path(file).write_text(written(views, 0))
     with contextlib.suppress(Refused):
         for _ in range(WARM):
-            sheet.draw(file, options().parse_args(["--all-visible"]), lambda text: None)
+            sheet.draw(file, options().parse_args(["--all-visible"]), noted.tell_none)
     os.unlink(file)
 
 

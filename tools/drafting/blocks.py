@@ -6,6 +6,7 @@ from . import asking, faults, program
 from .answers import Solid, text_of
 from .cells import Grid
 from .messages import Refused
+from .noted import Tell
 
 OUTSIDE = -1
 # What is said of a text that the program doesn't write.
@@ -112,7 +113,7 @@ def add_argument(parser: argparse.ArgumentParser) -> None:
     parser.add_argument("--blocks", metavar="BLOCKS", help="what recon blocks wrote for the drawing (else the program is run)")
 
 
-def ask(arguments: argparse.Namespace, tell: asking.Tell) -> asking.Asked:
+def ask(arguments: argparse.Namespace, tell: Tell) -> asking.Asked:
     """Asks for the blocks of a drawing, or of what is drawn of a sheet; the limits are those of searches for its rounds."""
     without = {"nodes": None, "solids": None, "workers": None, "limits": asking.words_of(arguments)}
     return asking.ask(arguments.drawing, argparse.Namespace(**{**vars(arguments), **without}), tell, ("blocks",))

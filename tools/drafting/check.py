@@ -76,7 +76,7 @@ def told(said: str, log: bytes, asked: asking.Asked, cuts: Cuts) -> list[str]:
 
 def run(arguments: argparse.Namespace) -> int:
     log = log_in(arguments.log)
-    asked, data = prove.whole_drawing(arguments, lambda text: say(f"draft check: {text}"))
+    asked, data = prove.whole_drawing(arguments, lambda note: say(f"draft check: {note}"))
     if len(data) + len(log) > MOST_BYTES:
         raise Refused(f"the drawing and its log have {len(data) + len(log):,} bytes, more than {MOST_BYTES:,}")
     judged = program.run(program.find(arguments.program), ["check", *asking.views_words(asked.lines)], data + log, arguments.seconds)

@@ -47,7 +47,7 @@ class Chosen(NamedTuple):
 
 def chosen_by(arguments: argparse.Namespace) -> Chosen:
     """The solid of the choice; refused where it hasn't the drawing's views."""
-    asked = blocks.ask(arguments, lambda text: say(f"draft chosen: {text}"))
+    asked = blocks.ask(arguments, lambda note: say(f"draft chosen: {note}"))
     if FAULT.fullmatch(head := asked.run.text.partition("\n")[0]):
         raise Refused("; ".join(faults.told(head, asked.lines)))
     views = views_of(asked.lines)

@@ -7,6 +7,7 @@ import argparse
 from . import asking, faults, program
 from .drawing import Stroke, lines_within, places_of, strokes_in, views_of, written
 from .messages import Refused, many, say, write_result
+from .noted import Tell
 from .panels import further_of, strokes_shown
 
 NAME = "clean"
@@ -20,7 +21,7 @@ def add_arguments(parser: argparse.ArgumentParser) -> None:
     asking.add_arguments(parser)
 
 
-def redrawn(arguments: argparse.Namespace, say_it: asking.Tell) -> asking.Asked:
+def redrawn(arguments: argparse.Namespace, say_it: Tell) -> asking.Asked:
     """What recon redraws of a solid; refused where there is none, but for a sheet with rounds, whose solids are rounded back."""
     asked = asking.ask(arguments.drawing, arguments, say_it, ("redraw", arguments.solid))
     if asked.rounds:
@@ -52,7 +53,7 @@ def with_further(asked: asking.Asked) -> dict[str, list[Stroke]]:
 
 
 def run(arguments: argparse.Namespace) -> int:
-    asked = redrawn(arguments, lambda text: say(f"draft clean: {text}"))
+    asked = redrawn(arguments, lambda note: say(f"draft clean: {note}"))
     if asked.rounds:
         raise Refused("a sheet with rounds or chamfers isn't drawn anew: `draft sheet` writes it squared off")
     strokes = with_further(asked)

@@ -19,20 +19,22 @@ import threading
 from collections.abc import Callable, Iterator
 from typing import IO, Any
 
-from . import asking, blocks, controls, faults, left_open, program, settle, shown, why
+from . import asking, blocks, controls, faults, left_open, noted, program, settle, shown, why
 from .answering import Readings
 from .answers import CUT, FAULT, WHOLE
 from .blocks import Blocks
 from .drawing import Line, decimals_of, lines_within, missing_in, origin_of, views_of
 from .given import given_in
 from .messages import Refused, many, say
+from .noted import Note
 from .panels import sheet_of
 from .shown import Units
 
 NAME = "follow"
 HELP = "ask recon about a drawing, and tell as it goes; `draft serve` runs it"
 
-SQUARED = "changed: solids are shown squared off: FreeCAD isn't there, by which they are rounded back"
+MIRRORED = noted.found("the side view is the left one: the drawing is shown in a mirror, and the solids as they are")
+SQUARED = noted.changed("solids are shown squared off: FreeCAD isn't there, by which they are rounded back")
 Event = dict[str, Any]
 Events = Iterator[Event]
 
@@ -56,8 +58,9 @@ def add_options(parser: argparse.ArgumentParser) -> None:
 
 # ---- events
 
-def said(text: str) -> Event:
-    return {"kind": "said", "text": text}
+def said(told: object) -> Event:
+    """A sentence, or what is told as one."""
+    return {"kind": "said", "text": str(told)}
 
 
 def drawing_event(lines: list[str], units: Units, head: str = "") -> Event:
@@ -87,14 +90,14 @@ def rounds_events(asked: asking.Asked) -> Events:
     if not rounds:
         return
     shapes = [one for one in first.outcome.kept if one.shape is not None] if first else []
-    yield from map(said, [*(first.outcome.told() if first else []), *rounds.told(), *(f"warning: {it}" for it in (first.given.doubts if first else ()))])
+    yield from map(said, [*(first.outcome.told() if first else []), *rounds.told(), *map(noted.warning, first.given.doubts if first else ())])
     if not first or not shapes:
         yield said(SQUARED)
         return
     from .meshes import meshes
     yield {"kind": "rounded", "solids": list(meshes(shapes[:MOST_ROUNDED], first.given, asked))}
     if len(shapes) > MOST_ROUNDED:
-        yield said(f"changed: {many(MOST_ROUNDED, 'solid')} are shown round, and the others squared off")
+        yield said(noted.changed(f"{many(MOST_ROUNDED, 'solid')} are shown round, and the others squared off", MOST_ROUNDED))
 
 
 def end_event(how: str, html: str, text: str = "") -> Event:
@@ -226,7 +229,7 @@ class Search:
         units = Units(self.decimals, origin_of(self.lines))
         yield drawing_event(self.lines, units)
         if units.origin.mirrored:
-            yield said("found: the side view is the left one: the drawing is shown in a mirror, and the solids as they are")
+            yield said(MIRRORED)
         if self.blocks.grid.has_cells():
             yield grid_event(self.blocks, units)
 
@@ -306,7 +309,7 @@ def suggest(asked: asking.Asked, arguments: argparse.Namespace, emit: Callable[[
 
 def follow(arguments: argparse.Namespace, search: Search) -> Events:
     """All of one drawing. How it is read is found by asking for its blocks, and then it is searched as it was asked for."""
-    told: list[str] = []
+    told: list[Note] = []
     try:
         try:
             asked = blocks.ask(arguments, told.append)

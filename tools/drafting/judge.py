@@ -173,7 +173,7 @@ def run(arguments: argparse.Namespace) -> int:
         lines = lines_within(data)
         decimals = answer.decimals if answer.solids else decimals_of(lines)
     else:
-        asked = asking.ask(arguments.drawing, arguments, lambda text: say(f"draft judge: {text}"))
+        asked = asking.ask(arguments.drawing, arguments, lambda note: say(f"draft judge: {note}"))
         answer, data, lines, decimals = answer_of(asked.run.text), asked.data, asked.lines, asked.decimals
     if given := given_in(lines):
         say(f"draft judge: what is judged are the solids of the drawing with its {given.kinds} squared off")

@@ -136,10 +136,9 @@ def answer_told(lines: list[str], text: str, its: Blocks | None) -> Events:
     head = answer.head
     units = Units(answer.decimals if answer.solids else decimals_of(lines), origin_of(lines))
     views = views_of(lines)
-    for text in asking.passed_over_told(lines):
-        yield follow.said(f"warning: {text}")
+    yield from map(follow.said, asking.passed_over_told(lines))
     if units.origin.mirrored:
-        yield follow.said("found: the side view is the left one: the drawing is shown in a mirror, and the solids as they are")
+        yield follow.said(follow.MIRRORED)
     if not any(views.values()) and not FAULT.fullmatch(head):
         raise Refused("no line of a view is in the drawing, and the answer is no fault")
     yield follow.drawing_event(lines, units, head)

@@ -7,6 +7,7 @@ part: it is the same one, turned.
 import itertools
 from collections.abc import Sequence
 
+from . import noted
 from .advice import InTheWay
 from .groups import NEARLY_AS_LARGE, Group, has_extent, holds, title_blocks
 from .messages import Refused, option
@@ -120,7 +121,7 @@ def pair_of(runs: Sequence[Run], hints: Hints) -> Placed | None:
     others = [group for group in it.chosen if not any(group is view for view in views)]
     left = [*it.left, *beside(it.groups, others, title_blocks(it.around, views, hints.tolerance), hints)]
     its = with_a_side(way.views)
-    return Placed(its, is_mirrored(way.views), [f"{way.angle}-angle views, {way}{without_told(its)}"], left)
+    return Placed(its, is_mirrored(way.views), [noted.found(f"{way.angle}-angle views, {way}{without_told(its)}"), *left])
 
 
 def by_places(runs: Sequence[Run], hints: Hints) -> Placed:

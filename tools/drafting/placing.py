@@ -6,10 +6,12 @@ from collections import Counter, defaultdict
 from collections.abc import Callable, Container, Iterable, Iterator, Mapping, Sequence
 from typing import NamedTuple
 
+from . import noted
 from .advice import InTheWay
 from .drawing import FURTHER, VIEWS
 from .groups import MOST_GROUPS, Group, frames, group_of, has_extent, holds, merged, pieces_of, title_blocks, united
 from .messages import Refused, many, option
+from .noted import Note, Thing
 from .panels import FRAMES
 from .reading import Box, Edge, Source, Unread
 from .sections import Why, together
@@ -36,12 +38,11 @@ MOST_CUTS = 20_000
 
 class Placed(NamedTuple):
     """The three views and those beside them, whether the part is seen in a mirror (the side view is the left one, and there is no right
-    one), what was found, in words, and whether names told the views, and not their places."""
+    one), what was found and left out, and whether names told the views, and not their places."""
 
     views: dict[str, Group]
     mirrored: bool
-    found: list[str]
-    left: list[str]
+    notes: list[Note]
     by_names: bool = False
 
 
@@ -138,7 +139,7 @@ def by_names(views: dict[str, list[Run]], others: list[Run], hints: Hints) -> Pl
     tolerance = hints.tolerance
     named = {view: list(runs) for view, runs in views.items()}
     boxes = {view: group_of(its).box for view, its in named.items()}
-    found, left = Counter[str](), Counter[str]()
+    taken, left = Counter[Thing](), Counter[Thing]()
     for run in others:
         holding = [view for view, box in boxes.items() if holds(box, run.box(), tolerance)]
         layer = run.edge.source.layer
@@ -146,9 +147,9 @@ def by_names(views: dict[str, list[Run]], others: list[Run], hints: Hints) -> Pl
             raise Refused(f"{run.edge.source} lies within the boxes of {' and '.join(holding)}, and its layer names none of them")
         if holding:
             named[holding[0]].append(run)
-            found[f"lines on layer {layer} taken to {holding[0]}, in whose box they lie"] += 1
+            taken[Thing(f"lines on layer {layer} taken to {holding[0]}, in whose box they lie", layer, view=holding[0])] += 1
         else:
-            left[f"lines on layer {layer}, outside the boxes of the named views"] += 1
+            left[Thing(f"lines on layer {layer}, outside the boxes of the named views", layer)] += 1
     groups = with_a_side({view: group_of(its) for view, its in named.items()})
     every = list(groups.values())
     for number, why in hints.sections(every, every).items():
@@ -156,10 +157,9 @@ def by_names(views: dict[str, list[Run]], others: list[Run], hints: Hints) -> Pl
         raise InTheWay(f"{view}, {group}, is a section, since {why}: a section is no view. Draw {view} uncut too", why.sources, NO_SECTION)
     by_what = "the names of " + ("files" if every[0].first.file else "layers or blocks")
     by_what = "the directions in which they look" if every[0].first.is_drawn else by_what
-    words = [f"the views by {by_what}: {', '.join(sorted(named))}{without_told(groups)}"]
+    seen = noted.found(f"the views by {by_what}: {', '.join(sorted(named))}{without_told(groups)}")
     check_extents(groups, tolerance)
-    return Placed(groups, is_mirrored(named), words + [f"{count} {what}" for what, count in found.items()],
-                  [f"{count} {what}" for what, count in left.items()], True)
+    return Placed(groups, is_mirrored(named), [seen, *noted.counted("found", taken), *noted.counted("left out", left)], True)
 
 
 def extents_of(view: str, group: Group) -> list[tuple[int, str, float]]:
@@ -346,20 +346,20 @@ class Standing(NamedTuple):
     chosen: list[Group]
     cut: dict[int, Why]
     around: list[Group]
-    left: list[str]
+    left: list[Note]
 
 
 def standing(runs: Sequence[Run], hints: Hints, least: int = 3) -> Standing:
     """What stands on a sheet, once what is round all the rest is left out, where so many groups or more are left."""
     pieces, around = frames(pieces_of(runs, hints.tolerance, hints.curves), hints.tolerance, least)
-    left = [f"{'a frame round all the rest' if has_extent(it, hints.tolerance) else 'between frames'}, {it}" for it in around]
+    left = [noted.left_out(f"{'a frame round all the rest' if has_extent(it, hints.tolerance) else 'between frames'}, {it}") for it in around]
     if len(pieces) > MOST_GROUPS:
         raise Refused(f"{len(pieces):,} groups of lines that don't touch")
     groups = merged(pieces, hints.tolerance)
     asked = [group for number, group in enumerate(groups, 1) if number in hints.leave_out]
-    left += [f"group {number}, as asked: {group}" for number, group in enumerate(groups, 1) if number in hints.leave_out]
+    left += [noted.left_out(f"group {number}, as asked: {group}") for number, group in enumerate(groups, 1) if number in hints.leave_out]
     cut = {number: why for number, why in hints.sections(groups, asked).items() if number + 1 not in hints.leave_out}
-    left += [f"a section, group {number + 1}, since {why}; sections aren't read: {groups[number]}" for number, why in cut.items()]
+    left += [noted.left_out(f"a section, group {number + 1}, since {why}; sections aren't read: {groups[number]}") for number, why in cut.items()]
     kept = [group for number, group in enumerate(groups, 1) if number not in hints.leave_out]
     chosen = [group for group in kept if not any(group is groups[number] for number in cut)]
     if not kept:
@@ -378,7 +378,7 @@ def placed_by(runs: Sequence[Run], hints: Hints) -> Placed:
         ways, chosen = complete, [group for group in chosen if why_no_view(group, hints)]
         count = len(ways[0].views)
         if count < len(views):
-            found.append(f"{many(len(views), 'group')} of lines taken as {count} views, parted by cuts upwards and across")
+            found.append(noted.found(f"{many(len(views), 'group')} of lines taken as {count} views, parted by cuts upwards and across", len(views)))
     if len(ways) != 1:
         refuse_in_place(groups, kept, cut, hints)
         told = [f"\n  group {number + 1} is a section, since {why}" for number, why in cut.items()]
@@ -388,8 +388,8 @@ def placed_by(runs: Sequence[Run], hints: Hints) -> Placed:
     left += beside(groups, others, title_blocks(around, list(way.views.values()), hints.tolerance), hints)
     front, top = way.views["FRONT"], way.views["TOP"]
     sizes = f"{front.width:.9g} wide, {top.height:.9g} deep and {front.height:.9g} high"
-    found.append(f"{way.angle}-angle views, {way}: a part {sizes}")
-    return Placed(with_a_side(way.views), is_mirrored(way.views), found, left)
+    found.append(noted.found(f"{way.angle}-angle views, {way}: a part {sizes}"))
+    return Placed(with_a_side(way.views), is_mirrored(way.views), [*found, *left])
 
 
 def refuse_in_place(groups: Sequence[Group], kept: Sequence[Group], cut: dict[int, Why], hints: Hints) -> None:
@@ -403,14 +403,14 @@ def refuse_in_place(groups: Sequence[Group], kept: Sequence[Group], cut: dict[in
             raise InTheWay(f"{stand}: a section is no view. Draw {' and '.join(places)} uncut too", sources, NO_SECTION)
 
 
-def beside(groups: Sequence[Group], others: Sequence[Group], blocks: Sequence[Group], hints: Hints) -> Iterator[str]:
+def beside(groups: Sequence[Group], others: Sequence[Group], blocks: Sequence[Group], hints: Hints) -> Iterator[Note]:
     """What is left out of the groups beside the views; refused where some may be further views."""
     unknown = []
     for group in others:
         block = next((it for it in blocks if holds(it.box, group.box, hints.tolerance)), None)
         why = why_no_view(group, hints) or block and f"it lies in a title block, {block}"
         if why:
-            yield f"{group}: {why}"
+            yield noted.left_out(f"{group}: {why}")
         else:
             unknown.append(next(at for at, it in enumerate(groups, 1) if it is group))
     if unknown:

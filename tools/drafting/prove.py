@@ -7,11 +7,12 @@ Nothing is written where the search was cut; the status is then recon's, 3 or 4.
 import argparse
 import pathlib
 
-from . import asking, faults, program
+from . import asking, faults, noted, program
 from .answers import CUT
 from .drawing import further_in, lines_within, strokes_in, up_to_end, written
 from .given import comments as given_comments, given_in, times
 from .messages import Refused, many, say, write_result
+from .noted import Tell
 
 NAME = "prove"
 HELP = "write a log by which others see that the solids listed are all"
@@ -24,7 +25,7 @@ def add_arguments(parser: argparse.ArgumentParser) -> None:
     asking.add_arguments(parser)
 
 
-def whole_drawing(arguments: argparse.Namespace, tell: asking.Tell) -> tuple[asking.Asked, bytes]:
+def whole_drawing(arguments: argparse.Namespace, tell: Tell) -> tuple[asking.Asked, bytes]:
     """What the least search says of a file or of its sheet, and the drawing as `prove` and `check` read it: in whole units, up to its
     end. Refused where it has a fault."""
     least = argparse.Namespace(**{**vars(arguments), "limits": asking.words_of(arguments), "nodes": 1, "solids": 1, "workers": None})
@@ -32,20 +33,20 @@ def whole_drawing(arguments: argparse.Namespace, tell: asking.Tell) -> tuple[ask
     if asked.run.status == program.FAULT:
         raise Refused("; ".join(faults.told(asked.run.text.strip(), asked.lines)))
     if further := further_in(asked.lines):
-        tell(f"warning: logs are of the {'two' if asked.missing else 'three'} main views: what {' and '.join(further)} would rule out isn't asked")
+        tell(noted.warning(f"logs are of the {'two' if asked.missing else 'three'} main views: what {' and '.join(further)} would rule out isn't asked"))
     given = given_in(asked.lines)
     if given:
-        tell(f"changed: the log is of the drawing with its {given.kinds} squared off, whose solids are sharp there")
+        tell(noted.changed(f"the log is of the drawing with its {given.kinds} squared off, whose solids are sharp there"))
     if not asked.decimals:
         return asked, up_to_end(asked.data)
-    tell(f"changed: lengths multiplied by {10**asked.decimals:,}, since logs are of drawings in whole units")
+    tell(noted.changed(f"lengths multiplied by {10**asked.decimals:,}, since logs are of drawings in whole units"))
     origin = asked.origin._replace(times=asked.origin.times * 10**asked.decimals)
     comments = given_comments(times(given, 10**asked.decimals)) if given else ""
     return asked, (comments + written(strokes_in(asked.lines, asked.decimals), 0, origin)).encode()
 
 
 def run(arguments: argparse.Namespace) -> int:
-    asked, data = whole_drawing(arguments, lambda text: say(f"draft prove: {text}"))
+    asked, data = whole_drawing(arguments, lambda note: say(f"draft prove: {note}"))
     words = ["prove", *asking.views_words(asked.lines), *asking.words_of(arguments)]
     made = program.run(program.find(arguments.program), words, data, arguments.seconds)
     lines = lines_within(made.text.encode())

@@ -11,6 +11,7 @@ from typing import TYPE_CHECKING, Any, NamedTuple
 from . import curves, kinds
 from .drawing import UNITS, Place, entries_of, lines_of
 from .messages import Refused, many
+from .noted import Thing, Things
 from .styles import HATCHED, Choice, Look, Style, style_of
 
 if TYPE_CHECKING:
@@ -130,13 +131,26 @@ class Sheet:
         self.scales: set[str] = set()
         self.arrows: list[Arrow] = []
         self.kept: list[Kept] = []
-        self.changed: Counter[str] = Counter()
-        self.left: Counter[str] = Counter()
+        self.changed: Things = Counter()
+        self.left: Things = Counter()
         # The same sheet without hidden lines, where that is given, and the edges as they were read before it told which are hidden.
         self.seen: Sheet | None = None
         self.whole: list[Edge] = []
         # The page of FreeCAD that it was drawn of: with all hidden lines, and without smooth ones.
         self.page: "Page | None" = None
+
+
+def on_layer(kind: str, layer: str, rest: str = "") -> Thing:
+    """An entity of a layer, of which the rest is told."""
+    return Thing(f"{kind} on layer {layer}{rest}", layer, kind)
+
+
+def thing_of(source: Source, rest: str) -> Thing:
+    return on_layer(source.kind, source.layer, f", {rest}")
+
+
+def inserted(what: str) -> Thing:
+    return Thing(f"INSERT of {what}", entity="INSERT")
 
 
 # ---- the file
@@ -261,7 +275,7 @@ class Reader:
         self.walk(space, Around(Look("0", "CONTINUOUS", 7)))
         for layout in self.document.layouts:
             if layout.name != "Model" and (count := sum(it.dxftype() != "VIEWPORT" for it in layout)):
-                self.sheet.left[f"entities of the paper space {layout.name}"] += count
+                self.sheet.left[Thing(f"entities of the paper space {layout.name}")] += count
         return self.sheet
 
     def pattern(self, linetype: str) -> list[float] | None:
@@ -311,7 +325,7 @@ class Reader:
             kind = entity.dxftype()
             why = self.hidden_away(entity, look.layer, around)
             if why:
-                self.sheet.left[f"{kind} {why}"] += 1
+                self.sheet.left[Thing(f"{kind} {why}", entity=kind)] += 1
             elif kind == "INSERT":
                 self.insert(entity, look, around)
             else:
@@ -329,14 +343,14 @@ class Reader:
         if self.arrows.is_acad_arrow(self.arrows.arrow_name(name)) or self.arrows.is_ezdxf_arrow(self.arrows.arrow_name(name)):
             source = self.source(insert, "INSERT", look, around)
             self.sheet.arrows.append(Arrow([(place.x, place.y)], abs(insert.dxf.get("xscale", 1.0)), source))
-            self.sheet.left[f"INSERT of an arrow head {name}"] += 1
+            self.sheet.left[inserted(f"an arrow head {name}")] += 1
             return
         if name not in self.document.blocks:
-            self.sheet.left[f"INSERT of {name}, which no block is named"] += 1
+            self.sheet.left[inserted(f"{name}, which no block is named")] += 1
             return
         style, why = style_of(Look(name, "CONTINUOUS", 0), (), None)
         if style is Style.APART:
-            self.sheet.left[f"INSERT of block {name}, which is named for frames, texts or dimensions"] += 1
+            self.sheet.left[inserted(f"block {name}, which is named for frames, texts or dimensions")] += 1
             return
         if around.depth >= DEEPEST:
             raise Refused(f"blocks stand in blocks more than {DEEPEST} deep, at {name}")
@@ -346,14 +360,14 @@ class Reader:
         copies: Iterable[Any] = insert.multi_insert() if insert.mcount > 1 else [insert]
         if insert.mcount > MOST_ENTITIES:
             raise Refused(f"block {name} is inserted {insert.mcount:,} times by one INSERT")
-        self.sheet.changed[f"INSERT of block {name} taken apart"] += 1
+        self.sheet.changed[inserted(f"block {name} taken apart")] += 1
         for attribute in insert.attribs:
             self.entity(attribute, attribute.dxftype(), look, around)
         for copy in copies:
             self.walk(copy.virtual_entities(skipped_entity_callback=self.skipped), within)
 
     def skipped(self, entity: Any, why: str) -> None:
-        self.sheet.left[f"{entity.dxftype()} of a block that ezdxf can't place"] += 1
+        self.sheet.left[Thing(f"{entity.dxftype()} of a block that ezdxf can't place", entity=entity.dxftype())] += 1
 
     # -- all else
 
@@ -366,12 +380,12 @@ class Reader:
             sheet.kept.append(Kept(entity, source))
         if kind in TEXTS:
             self.text(entity)
-            sheet.left[f"{kind} on layer {look.layer}"] += 1
+            sheet.left[on_layer(kind, look.layer)] += 1
         elif kind not in ("LINE", *POLYLINES, *CURVES):
-            sheet.left[f"{kind} on layer {look.layer}"] += 1
+            sheet.left[on_layer(kind, look.layer)] += 1
         elif style in (Style.CENTRE, Style.APART):
             what = "centre line, " if style is Style.CENTRE else ""
-            sheet.left[f"{kind} on layer {look.layer}{', ' + what + why if why else ', a centre line'}"] += 1
+            sheet.left[on_layer(kind, look.layer, f", {what}{why}" if why else ", a centre line")] += 1
         elif style is Style.UNKNOWN:
             sheet.unread.append(Unread(f"has the {why}, which tells no style", box_of(entity), source, look.linetype))
         elif kind in CURVES:
@@ -384,7 +398,7 @@ class Reader:
             sheet.unread.append(Unread("is an arrow head", box_of(entity), source))
         else:
             if why:
-                sheet.changed[f"{kind} on layer {look.layer} taken as {style.value}, {why}"] += 1
+                sheet.changed[on_layer(kind, look.layer, f" taken as {style.value}, {why}")] += 1
             self.lines(entity, kind, style is Style.HIDDEN, look, source)
 
     def text(self, entity: Any) -> None:
@@ -405,10 +419,10 @@ class Reader:
         taken = curves.taken(entity)
         if isinstance(taken, curves.Bow):
             if kind not in ("ARC", "CIRCLE"):
-                self.sheet.changed[f"{kind} on layer {look.layer} taken as a part of a circle"] += 1
+                self.sheet.changed[on_layer(kind, look.layer, " taken as a part of a circle")] += 1
             self.sheet.arcs.append(Arc(hidden, *taken, source))
         elif taken:
-            self.sheet.changed[f"straight {kind} on layer {look.layer} taken as a line"] += 1
+            self.sheet.changed[Thing(f"straight {kind} on layer {look.layer} taken as a line", look.layer, kind)] += 1
             self.sheet.edges.append(Edge(hidden, *taken, look.colour, source))
         else:
             self.sheet.unread.append(Unread("is no straight line", box_of(entity), source))
@@ -416,12 +430,13 @@ class Reader:
     def lines(self, entity: Any, kind: str, hidden: bool, look: Look, source: Source) -> None:
         parts = [entity]
         if kind in POLYLINES:
-            self.sheet.changed[f"{kind} on layer {look.layer} taken apart"] += 1
+            self.sheet.changed[on_layer(kind, look.layer, " taken apart")] += 1
             parts, bows = curves.without_chords(list(entity.virtual_entities()))
             self.sheet.arcs += [Arc(hidden, *bow, source) for bow, _ in bows]
             if bows:
                 count = sum(chords for _, chords in bows)
-                self.sheet.changed[f"{kind} on layer {look.layer}, of which {count} short chords are taken as {many(len(bows), 'round')}"] += 1
+                told = f", of which {count} short chords are taken as {many(len(bows), 'round')}"
+                self.sheet.changed[on_layer(kind, look.layer, told)] += 1
         for part in parts:
             if part.dxftype() == "ARC" and (bow := curves.bow_of_arc(part)):
                 self.sheet.arcs.append(Arc(hidden, *bow, source))
@@ -434,7 +449,7 @@ class Reader:
             if not all(map(math.isfinite, ends)):
                 raise Refused(f"{source} has a coordinate that is no number")
             if abs(start.z - end.z) > 1e-9:
-                self.sheet.changed[f"{kind} on layer {look.layer} seen from above, since its ends differ in height"] += 1
+                self.sheet.changed[on_layer(kind, look.layer, " seen from above, since its ends differ in height")] += 1
             self.sheet.edges.append(Edge(hidden, ends[:2], ends[2:], look.colour, source))
 
 
@@ -466,5 +481,5 @@ def read_sheet(path: str, choices: Sequence[Choice]) -> Sheet:
     except RecursionError:
         raise Refused(f"{pathlib.Path(path).name}: blocks stand in one another without an end") from None
     if mended:
-        sheet.changed[mended] += 1
+        sheet.changed[Thing(mended)] += 1
     return sheet

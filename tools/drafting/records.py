@@ -17,6 +17,7 @@ from .answers import CUT, WHOLE, Face, Solid, answer_of, sizes_of
 from .asking import Asked
 from .kept import Kept
 from .messages import Refused
+from .noted import Note
 
 SCHEMA = "recon.solve/1"
 Record = dict[str, Any]
@@ -25,37 +26,7 @@ Record = dict[str, Any]
 LISTED = 20
 # recon's own limits, where none are said.
 NODES, SOLIDS = 1_000_000, 4_096
-# What `draft` says of a sheet, each by the word that it begins with.
-KINDS = ("found", "changed", "left out", "drawn", "warning")
-COUNTED = re.compile(r"(\d[\d,]*) ")
 GROUP_CODE = re.compile(r" code (-?\d+)")
-
-
-@dataclasses.dataclass(frozen=True)
-class Note:
-    """A thing that was found, changed, left out or drawn, or of which is warned, in words; and of how many, where these words say that
-    first."""
-
-    kind: str
-    what: str
-    count: int | None = None
-
-    def __str__(self) -> str:
-        return f"{self.kind}: {self.what}"
-
-
-def note_of(text: str) -> Note:
-    """What a sentence tells, that begins with one of the kinds."""
-    kind, _, what = text.partition(": ")
-    counted = COUNTED.match(what)
-    return Note(kind, what, int(counted[1].replace(",", "")) if counted else None)
-
-
-class Notes(list[Note]):
-    """What is told of a drawing while it is read."""
-
-    def take(self, text: str) -> None:
-        self.append(note_of(text))
 
 
 # ---- solids

@@ -12,10 +12,12 @@ from collections.abc import Callable, Iterator, Sequence
 from fractions import Fraction
 from typing import Any, NamedTuple
 
+from . import noted
 from .cutting import Word, words_of
 from .drawing import Place
 from .messages import Refused, many, option
 from .groups import Group
+from .noted import Tell
 from .reading import Arrow, Box, Kept, Sheet, Source
 
 # The kinds of dimensions that say a length, as the lowest three bits of group code 70 have them.
@@ -44,7 +46,6 @@ NUMBER = re.compile(
     r"\s*(?P<unit>''|[\"″]|(?:mm|cm|inch|in|m|ft)(?![a-z]))?", re.I,
 )
 
-Tell = Callable[[str], None]
 Where = Callable[[Source], str]
 
 
@@ -282,26 +283,29 @@ def checked(sheet: Sheet, views: Sequence[Group], scale: Scale, arguments: argpa
         return checked_exploded(list(exploded_in(sheet, arguments.tolerance)), sheet, scale, arguments, where, tell)
     dimensions = [it for it in every if any(all(lies_in(view.box, end) for end in it.ends) for view in views)]
     if len(dimensions) < len(every):
-        tell(f"left out: {many(len(every) - len(dimensions), 'dimension')} of no view, which nothing is compared with")
+        lost = len(every) - len(dimensions)
+        tell(noted.left_out(f"{many(lost, 'dimension')} of no view, which nothing is compared with", lost))
     if not dimensions:
         return scale.times
     used, best = (agreed_on(scale.times, dimensions, arguments.tolerance), agreed(dimensions, arguments.tolerance))
     is_better = not best.off and best.ratio != scale.times and is_scale(best.ratio, dimensions) and len(best.rounded) < len(used.rounded)
     if not used.off and not is_better:
         if used.rounded:
-            tell(f"warning: {says(len(used.rounded))} a rounded length, and lengths are as drawn:{named(used.rounded, where)}")
-        tell(f"found: {says(len(dimensions))} {spanned(len(dimensions))}"
-             + (f", at the scale {scale_told(scale.times)}" if scale.times != 1 else ""))
+            tell(noted.warning(f"{says(len(used.rounded))} a rounded length, and lengths are as drawn:{named(used.rounded, where)}",
+                               len(used.rounded)))
+        at_scale = f", at the scale {scale_told(scale.times)}" if scale.times != 1 else ""
+        tell(noted.found(f"{says(len(dimensions))} {spanned(len(dimensions))}{at_scale}", len(dimensions)))
         return scale.times
     if not best.off and (unit := unit_told(best.ratio / scale.times, sheet.unit)):
-        tell(f"found: {says(len(dimensions))} in {unit} {spanned(len(dimensions))} in {sheet.unit}")
+        tell(noted.found(f"{says(len(dimensions))} in {unit} {spanned(len(dimensions))} in {sheet.unit}", len(dimensions)))
         return scale.times
     if arguments.as_drawn:
         off = used.off or used.rounded
-        tell(f"warning: lengths are taken as drawn, and {off_told(off, dimensions)} another:{named(off, where)}")
+        tell(noted.warning(f"lengths are taken as drawn, and {off_told(off, dimensions)} another:{named(off, where)}", len(off)))
         return scale.times
     if not best.off and not scale.is_said and scale_told(best.ratio) in sheet.scales:
-        tell(f"changed: lengths taken at the scale {scale_told(best.ratio)}, which a text says and {many(len(dimensions), 'dimension')} too")
+        tell(noted.changed(f"lengths taken at the scale {scale_told(best.ratio)}, which a text says and {many(len(dimensions), 'dimension')} too",
+                           len(dimensions)))
         return best.ratio
     raise Refused(refusal(dimensions, used, best, scale, where))
 
@@ -315,13 +319,15 @@ def checked_exploded(
     numbers = many(len(dimensions), "number")
     if not used.off:
         if dimensions:
-            tell(f"found: {numbers} between arrow heads {'says' if len(dimensions) == 1 else 'say'} {spanned(len(dimensions))}")
+            verb = "says" if len(dimensions) == 1 else "say"
+            tell(noted.found(f"{numbers} between arrow heads {verb} {spanned(len(dimensions))}", len(dimensions)))
         return scale.times
     if best.off or best.rounded or not is_scale(best.ratio, dimensions) or len(dimensions) < 2 or arguments.as_drawn:
-        tell(f"warning: {len(used.off)} of {numbers} between arrow heads say another length:{named(used.off, where)}")
+        tell(noted.warning(f"{len(used.off)} of {numbers} between arrow heads say another length:{named(used.off, where)}", len(used.off)))
         return scale.times
     if not scale.is_said and scale_told(best.ratio) in sheet.scales:
-        tell(f"changed: lengths taken at the scale {scale_told(best.ratio)}, which a text says and {numbers} between arrow heads too")
+        tell(noted.changed(f"lengths taken at the scale {scale_told(best.ratio)}, which a text says and {numbers} between arrow heads too",
+                           len(dimensions)))
         return best.ratio
     raise Refused(refusal(dimensions, used, best, scale, where))
 

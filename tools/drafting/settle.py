@@ -290,7 +290,7 @@ def case_of(arguments: argparse.Namespace) -> Case:
         if given_in(case.lines):
             say("draft settle: warning: the drawing is squared off, and of the solids of the answer not all may be kept")
     else:
-        asked = asking.ask(arguments.drawing, arguments, lambda text: say(f"draft settle: {text}"))
+        asked = asking.ask(arguments.drawing, arguments, lambda note: say(f"draft settle: {note}"))
         case = of_asked(asked)
         if asked.rounds and asked.rounds.elsewhere:
             raise Refused(f"the {many(len(asked.kept), 'solid')} of this sheet are kept in several readings of it, which views don't tell apart: draft "

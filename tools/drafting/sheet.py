@@ -12,18 +12,18 @@ Each thing that is changed or left out is one line on standard error, and what c
 """
 import argparse
 import itertools
-from collections import Counter
-from collections.abc import Callable, Iterator, Mapping, Sequence
+from collections.abc import Iterator, Mapping, Sequence
 from fractions import Fraction
 from typing import Any, NamedTuple
 
-from . import documents, files, pairs, scale
+from . import documents, files, noted, pairs, scale
 from .advice import Advisable
 from .cutting import Mark, marks_of, without_marks
 from .dimensions import without_dimensions
 from .drawing import VIEWS, Origin, Stroke, places_of, written
 from .groups import Group
 from .messages import Refused, many, option, say, write_result
+from .noted import Note, Tell
 from .paper import Paper
 from .placing import Hints, Placed, by_names, extents_of, main_named, named_views, numbers_of, view_named
 from .reading import Edge, Sheet, Unread, read_sheet, where
@@ -41,8 +41,6 @@ MOST_EDGES, MOST_RUNS, FARTHEST = 300_000, 30_000, 1_000_000_000
 # Between the views of what is written, in the sheet's unit.
 MARGIN = 10
 
-Tell = Callable[[str], None]
-
 
 class Drawn(NamedTuple):
     """A drawing of three layers, made of a sheet: its text, how many decimals it has, how it stands for the sheet, and the way back. Of a
@@ -53,7 +51,7 @@ class Drawn(NamedTuple):
     decimals: int
     origin: Origin
     paper: Paper | None = None
-    notes: Sequence[str] = ()
+    notes: Sequence[Note] = ()
     others: Iterator["Alike"] = iter(())
     refused: Refused | None = None
     is_plain: bool = True
@@ -130,15 +128,16 @@ def edges_of(path: str | None, arguments: argparse.Namespace, tell: Tell) -> tup
     named = files.files_of(arguments, path)
     sheets = list(files.read_views(named, choices).values()) if named else [read_sheet(str(path), choices)]
     whole = files.together(sheets)
-    tell_counted(tell, "changed", whole.changed)
-    tell_counted(tell, "left out", whole.left)
-    tell(f"found: lengths in {whole.unit}" if whole.unit else "found: no unit of length is told")
+    for note in (*noted.counted("changed", whole.changed), *noted.counted("left out", whole.left)):
+        tell(note)
+    tell(noted.found(f"lengths in {whole.unit}" if whole.unit else "no unit of length is told"))
     if len(whole.edges) > MOST_EDGES:
         raise Refused(f"{len(whole.edges):,} lines, more than {MOST_EDGES:,}")
     if visible := files.visible_only(arguments, path):
         sheets[0].whole, sheets[0].seen = sheets[0].edges, read_sheet(visible, choices)
         sheets[0].edges = hidden_within(sheets[0].edges, sheets[0].seen.edges, arguments.tolerance)
-        tell(f"changed: {many(sum(edge.hidden for edge in sheets[0].edges), 'line')} taken as hidden, since {visible} lacks them")
+        hidden = sum(edge.hidden for edge in sheets[0].edges)
+        tell(noted.changed(f"{many(hidden, 'line')} taken as hidden, since {visible} lacks them", hidden))
     marks = [mark for sheet in sheets for mark in without_annotations(sheet, arguments.tolerance, tell)]
     return files.together(sheets), marks
 
@@ -152,21 +151,18 @@ def hidden_within(whole: Sequence[Edge], visible: Sequence[Edge], tolerance: flo
     return [edge for its in views.values() for edge in hidden_by(*its, tolerance)]
 
 
-def tell_counted(tell: Tell, what: str, counts: Counter[str]) -> None:
-    for thing, count in counts.items():
-        tell(f"{what}: {count} {thing}")
-
-
 def without_annotations(sheet: Sheet, tolerance: float, tell: Tell) -> list[Mark]:
     """Takes the lines and arrow heads of exploded dimensions and of cutting-plane lines off a sheet; the ends of the latter."""
     kept, heads = without_dimensions(sheet.edges, sheet.arrows, tolerance)
     if len(kept) < len(sheet.edges):
-        tell(f"left out: {many(len(sheet.edges) - len(kept), 'line')} of exploded dimensions, with {many(len(heads), 'arrow head')}")
+        lines = len(sheet.edges) - len(kept)
+        tell(noted.left_out(f"{many(lines, 'line')} of exploded dimensions, with {many(len(heads), 'arrow head')}", lines))
     marks = marks_of(sheet, kept, heads, tolerance)
     sheet.edges = without_marks(kept, marks, tolerance)
     if marks:
         letters = ", ".join(dict.fromkeys(f"{mark.letter}-{mark.letter}" for mark in marks))
-        tell(f"left out: {many(len(kept) - len(sheet.edges), 'line')} at the ends of the cutting-plane lines {letters}")
+        lines = len(kept) - len(sheet.edges)
+        tell(noted.left_out(f"{many(lines, 'line')} at the ends of the cutting-plane lines {letters}", lines))
     gone = {head.source for head in heads} | {mark.head.source for mark in marks}
     sheet.unread = [it for it in sheet.unread if it.source not in gone]
     return marks
@@ -182,9 +178,9 @@ def straight_runs(edges: Mapping[str, list[Edge]], tolerance: float, tell: Tell)
             raise Refused(f"{len(runs[name]):,} lines once pieces are joined, more than {MOST_RUNS:,}")
         pieces, short = pieces + joined, short + without
     if pieces:
-        tell(f"changed: {many(pieces, 'piece')} joined with others in their line, or drawn there twice")
+        tell(noted.changed(f"{many(pieces, 'piece')} joined with others in their line, or drawn there twice", pieces))
     if short:
-        tell(f"left out: {many(short, 'line')} without length")
+        tell(noted.left_out(f"{many(short, 'line')} without length", short))
     return runs
 
 
@@ -206,10 +202,8 @@ def placed_views(sheet: Sheet, edges: Sequence[Edge], marks: Sequence[Mark], arg
         placed = by_names(runs, others, hints)
     else:
         placed = pairs.by_places(others, hints)
-    for text in placed.found:
-        tell(f"found: {text}")
-    for text in placed.left:
-        tell(f"left out: {text}")
+    for note in placed.notes:
+        tell(note)
     return placed
 
 
@@ -243,8 +237,8 @@ def check_styles(placed: Placed, arguments: argparse.Namespace, tell: Tell) -> N
     if any(layer.startswith("ProjItem") for layer in layers):
         raise Refused("a page of FreeCAD's TechDraw, which tells no linetypes: export it a second time with hidden lines off and name that "
                       f"by {option('visible-only')}, or say {option('all-visible')}")
-    tell(f"warning: no line is hidden, on the layers {', '.join(layers)}; where some are, say which by {option('hidden')}; where they aren't "
-         "drawn, `draft solve --visible-edges-alone` lists some solids that have the visible ones")
+    tell(noted.warning(f"no line is hidden, on the layers {', '.join(layers)}; where some are, say which by {option('hidden')}; where they "
+                       "aren't drawn, `draft solve --visible-edges-alone` lists some solids that have the visible ones"))
 
 
 # ---- what is written
@@ -318,9 +312,9 @@ def scale_in_use(path: str | None, sheet: Sheet, placed: Placed, arguments: argp
     said = scale.Scale(scale_of(arguments.scale or "1:1"), arguments.scale is not None)
     times = scale.checked(sheet, list(placed.views.values()), said, arguments, lambda source: where(source, path), tell)
     for text in sorted(sheet.scales - {"1:1", scale.scale_told(times)}):
-        tell(f"found: a text says {text}; lengths are taken {'as drawn' if times == 1 else 'by ' + scale.scale_told(times)}")
+        tell(noted.found(f"a text says {text}; lengths are taken {'as drawn' if times == 1 else 'by ' + scale.scale_told(times)}"))
     if times != 1:
-        tell(f"changed: lengths multiplied by {times}, as the scale {scale.scale_told(times)} says")
+        tell(noted.changed(f"lengths multiplied by {times}, as the scale {scale.scale_told(times)} says"))
     return times
 
 
@@ -347,9 +341,9 @@ def measured(path: str | None, placed: Placed, times: Fraction, arguments: argpa
     if measure is None:
         raise unfit(path, ats, times, arguments)
     if measure.moved > 1e-12:
-        tell(f"changed: coordinates moved by {measure.moved:.2g} at most, to {many(measure.decimals, 'decimal')}")
+        tell(noted.changed(f"coordinates moved by {measure.moved:.2g} at most, to {many(measure.decimals, 'decimal')}"))
     if measure.times != times:
-        tell(f"changed: lengths multiplied by {measure.times / times}, since they have no decimals, and are whole in parts of a unit")
+        tell(noted.changed(f"lengths multiplied by {measure.times / times}, since they have no decimals, and are whole in parts of a unit"))
     return measure
 
 
@@ -406,7 +400,7 @@ def gets_further(path: str | None, arguments: argparse.Namespace, refusal: Advis
     """Whether a sheet that was refused is drawn, or refused for another entity, with what is advised."""
     more: dict[str, Any] = {name: [*getattr(arguments, name), *it] if isinstance(it, list) else it for name, it in changes.items()}
     try:
-        draw(path, argparse.Namespace(**{**vars(arguments), **more, "is_tried": True}), lambda text: None)
+        draw(path, argparse.Namespace(**{**vars(arguments), **more, "is_tried": True}), noted.tell_none)
     except Advisable as other:
         return bool(other.sources) and not other.sources & refusal.sources
     except Refused:
@@ -419,7 +413,7 @@ def has_oblique(path: str | None, sheet: Sheet, marks: Sequence[Mark], arguments
     if all(min(abs(a - b) for a, b in zip(edge.start, edge.end)) <= arguments.tolerance or edge.source.file for edge in sheet.edges):
         return False
     try:
-        placed = found_views(path, sheet, sheet.edges, marks, arguments, lambda text: None)
+        placed = found_views(path, sheet, sheet.edges, marks, arguments, noted.tell_none)
     except Refused:
         return False
     return len(main_named(placed.views)) == len(VIEWS) and any(run.oblique for group in placed.views.values() for run in group.runs)
@@ -436,7 +430,8 @@ def draw_straight(path: str | None, sheet: Sheet, marks: Sequence[Mark], argumen
 def checked_views(path: str | None, sheet: Sheet, edges: Sequence[Edge], marks: Sequence[Mark], arguments: argparse.Namespace, tell: Tell) -> Placed:
     """The views of a sheet; refused where something in them can't be read."""
     placed = found_views(path, sheet, edges, marks, arguments, tell)
-    tell_counted(tell, "left out", refuse_unread(path, placed, sheet.unread, arguments.tolerance))
+    for note in noted.counted("left out", refuse_unread(path, placed, sheet.unread, arguments.tolerance)):
+        tell(note)
     refuse_oblique(path, placed)
     if not sheet.page:
         check_styles(placed, arguments, tell)
@@ -449,14 +444,14 @@ def drawn_views(
     """The drawing of the views at a scale, with some comments before it."""
     views, under = strokes_of(placed, measure)
     if under:
-        tell(f"left out: {many(under, 'hidden stretch', 'hidden stretches')} under visible ones, or joined")
+        tell(noted.left_out(f"{many(under, 'hidden stretch', 'hidden stretches')} under visible ones, or joined", under))
     if placed.mirrored:
-        tell("changed: the side view is the left one, so all views are drawn in a mirror, x turned round")
+        tell(noted.changed("the side view is the left one, so all views are drawn in a mirror, x turned round"))
     # Lengths by the scale are told as real ones: only what was needed to make them whole is told apart.
     origin = Origin(sheet.unit, measure.times / times, placed.mirrored)
     lines = sum(map(len, views.values()))
     hidden = sum(one[0] for strokes in views.values() for one in strokes)
-    tell(f"drawn: {many(lines, 'line')}, {hidden} of them hidden; recon reads it with --decimals {measure.decimals}")
+    tell(noted.drawn(f"{many(lines, 'line')}, {hidden} of them hidden; recon reads it with --decimals {measure.decimals}", lines))
     begins = {view: least_of(its) for view, its in views.items()}
     units = 10**measure.decimals
     paper = Paper(placed.views, begins, measure.times * units, origin.times * units, placed.mirrored, arguments.tolerance,
@@ -471,7 +466,7 @@ def least_of(strokes: Sequence[Stroke]) -> tuple[int, int]:
 
 
 def run(arguments: argparse.Namespace) -> int:
-    drawn = draw(arguments.sheet, arguments, lambda text: say(f"draft sheet: {text}"))
+    drawn = draw(arguments.sheet, arguments, lambda note: say(f"draft sheet: {note}"))
     for note in drawn.notes:
         say(f"draft sheet: {note}")
     write_result(drawn.text, arguments.output)

@@ -16,6 +16,7 @@ from . import asking, faults, files, left_open, program, records, visible
 from .answering import Answered, Readings
 from .answers import CUT, FAULT, have_views, sizes_of
 from .messages import Refused, Usage, many, say, write_result
+from .noted import Note
 
 NAME = "solve"
 HELP = "say how many solids have the views of a drawing or a sheet"
@@ -94,11 +95,11 @@ def run(arguments: argparse.Namespace) -> int:
         if arguments.json:
             raise Usage("--visible-edges-alone lists some solids, and --json all")
         return visible.run(arguments, LISTED if arguments.list is None else max(0, arguments.list))
-    notes = records.Notes()
+    notes: list[Note] = []
 
-    def tell(text: str) -> None:
-        notes.take(text)
-        say(f"draft solve: {text}")
+    def tell(note: Note) -> None:
+        notes.append(note)
+        say(f"draft solve: {note}")
 
     try:
         asked = asking.ask(arguments.drawing, arguments, tell)

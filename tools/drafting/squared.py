@@ -9,15 +9,16 @@ from collections.abc import Iterator, Mapping, Sequence
 from fractions import Fraction
 from typing import NamedTuple
 
-from . import chamfers, cones, given, rounds, sheet, tangent
+from . import chamfers, cones, given, noted, rounds, sheet, tangent
 from .cutting import Mark
 from .drawing import VIEWS, Place
 from .given import Cone, Given, Stretch
 from .groups import Group, frames, holds, merged, pieces_of
 from .messages import Refused, many
+from .noted import Note, Tell
 from .panels import FRAMES
 from .placing import Placed
-from .reading import Arc, Box, Edge, Sheet, Unread, where
+from .reading import Arc, Box, Edge, Sheet, Unread, thing_of, where
 from .rounds import OF_ONE, Move, Round, Squares, box_of, is_level, is_straight
 from .straight import Measure, Run, runs_of
 from .tangent import Reading, Views
@@ -171,7 +172,7 @@ def arcs_beside(edges: Sequence[Edge], arcs: Sequence[Arc], curves: Sequence[Unr
     return kept, [arc for arc in arcs if not any(arc is it for it in kept)]
 
 
-def read(path: str | None, read_sheet: Sheet, marks: Sequence[Mark], arguments: argparse.Namespace, tell: sheet.Tell) -> Found:
+def read(path: str | None, read_sheet: Sheet, marks: Sequence[Mark], arguments: argparse.Namespace, tell: Tell) -> Found:
     """What is read of a sheet with arcs, and where its views are."""
     tolerance, edges, arcs = arguments.tolerance, read_sheet.edges, read_sheet.arcs
     if len(arcs) > MOST_ARCS:
@@ -186,7 +187,7 @@ def read(path: str | None, read_sheet: Sheet, marks: Sequence[Mark], arguments: 
         edges = evened(edges, arcs)
     kept, left = arcs_beside(edges, arcs, sheet.curves_of(read_sheet), tolerance)
     bare = [*edges, *rounds.bare_squares(rounds.rounds_of(kept, tolerance))]
-    placed = sheet.found_views(path, read_sheet, bare, marks, arguments, lambda text: None)
+    placed = sheet.found_views(path, read_sheet, bare, marks, arguments, noted.tell_none)
     if missing := [view for view in VIEWS if view not in placed.views]:
         raise Refused(f"{missing[0]} isn't drawn, and a sheet with circles or arcs is read where all three main views are there: draw it too")
     # What no reading changes is refused at once.
@@ -198,8 +199,8 @@ def read(path: str | None, read_sheet: Sheet, marks: Sequence[Mark], arguments: 
     for arc in kept:
         if not any(holds(group.box, arc_box(arc), OF_ONE * tolerance) for group in placed.views.values()):
             left.append(arc)
-    counts = Counter(f"{arc.source.kind} on layer {arc.source.layer}, outside the views" for arc in left)
-    sheet.tell_counted(tell, "left out", counts)
+    for note in noted.counted("left out", Counter(thing_of(arc.source, "outside the views") for arc in left)):
+        tell(note)
     within = [arc for arc in kept if not any(arc is it for it in left)]
     return Found(path, read_sheet, marks, edges, within, placed, arguments, round_ones, *chamfers.choices(views, oblique))
 
@@ -270,14 +271,14 @@ def squared(found: Found, reading: Reading, corners: Sequence[chamfers.Squared])
     return lines, squares
 
 
-def measured(path: str | None, placed: Placed, times: Fraction, arguments: argparse.Namespace, tell: sheet.Tell) -> Measure:
+def measured(path: str | None, placed: Placed, times: Fraction, arguments: argparse.Namespace, tell: Tell) -> Measure:
     """How lengths become whole; rounded where they have no end."""
     try:
         return sheet.measured(path, placed, times, arguments, tell)
     except Refused as refusal:
         if "doesn't fit" not in str(refusal) or arguments.sheet_decimals is not None:
             raise
-        tell(f"changed: coordinates rounded to {ROUNDED} decimals, since they have no end")
+        tell(noted.changed(f"coordinates rounded to {ROUNDED} decimals, since they have no end"))
         return Measure(times, ROUNDED, 0.5 * 10**-ROUNDED)
 
 
@@ -350,14 +351,15 @@ def check_within(found: Found, placed: Placed) -> None:
                           "cones within them")
 
 
-def tell_cones(found: Found, tell: sheet.Tell) -> None:
+def tell_cones(found: Found, tell: Tell) -> None:
     for view in VIEWS:
         points = sum(it.end_radius == 0 for it in found.cones.its if it.view == view)
         steps = sum(it.end_radius > 0 for it in found.cones.its if it.view == view)
         if points:
-            tell(f"left out: of {view} {many(points, 'place')} where a hole may end in a cone to a point, which is put back")
+            tell(noted.left_out(f"of {view} {many(points, 'place')} where a hole may end in a cone to a point, which is put back", points, view))
         if steps:
-            tell(f"changed: of {view} {many(steps, 'cone')} between two circles squared off to {'a step' if steps == 1 else 'steps'}")
+            tell(noted.changed(f"of {view} {many(steps, 'cone')} between two circles squared off to {'a step' if steps == 1 else 'steps'}",
+                               steps, view))
 
 
 def doubts_of_cones(found: Found) -> list[str]:
@@ -366,7 +368,7 @@ def doubts_of_cones(found: Found) -> list[str]:
     return [f"{many(len(found.cones.its), 'place')} of cones in line may have them in more than {count} ways"] if count >= cones.MOST else []
 
 
-def drawn(found: Found, reading: Reading, corners: Sequence[chamfers.Squared], number: tuple[int, int], tell: sheet.Tell) -> sheet.Drawn:
+def drawn(found: Found, reading: Reading, corners: Sequence[chamfers.Squared], number: tuple[int, int], tell: Tell) -> sheet.Drawn:
     """The drawing of one reading of a sheet, with its oblique edges squared to some corners."""
     lines, squares = squared(found, reading, corners)
     squares.doubts.extend(doubts_of_cones(found))
@@ -384,21 +386,24 @@ def drawn(found: Found, reading: Reading, corners: Sequence[chamfers.Squared], n
     tell_cones(found, tell)
     for stretch in told.smooth:
         way = "upright" if stretch.is_upright else "level"
-        tell(f"left out: in {stretch.view} the {way} line at {stretch.at:.6g} from {stretch.low:.6g} to {stretch.high:.6g}, taken as a tangent edge")
+        tell(noted.left_out(f"in {stretch.view} the {way} line at {stretch.at:.6g} from {stretch.low:.6g} to {stretch.high:.6g}, taken as a tangent edge",
+                            view=stretch.view))
     for text in squares.doubts[:MOST_TOLD]:
-        tell(f"warning: {text}: other solids may be missed")
+        tell(noted.warning(f"{text}: other solids may be missed"))
     if len(squares.doubts) > MOST_TOLD:
-        tell(f"warning: {many(len(squares.doubts) - MOST_TOLD, 'place')} more of this kind")
+        more = len(squares.doubts) - MOST_TOLD
+        tell(noted.warning(f"{many(more, 'place')} more of this kind", more))
     return sheet.drawn_views(found.path, found.sheet, placed, times, measure, found.arguments, tell, given.comments(told))
 
 
-def tell_squares(told: Given, tell: sheet.Tell) -> None:
+def tell_squares(told: Given, tell: Tell) -> None:
     for view in dict.fromkeys(it.view for it in told.squared):
         circles = [it for it in told.rounds if it.view == view]
         if circles:
-            tell(f"changed: in {view} {many(len(circles), 'circle or round', 'circles or rounds')} squared off, of {radii_told(circles)}")
+            tell(noted.changed(f"in {view} {many(len(circles), 'circle or round', 'circles or rounds')} squared off, of {radii_told(circles)}",
+                               len(circles), view))
         if count := sum(it.view == view for it in told.chamfers):
-            tell(f"changed: in {view} {many(count, 'oblique edge')} squared off to {'a corner' if count == 1 else 'corners'}")
+            tell(noted.changed(f"in {view} {many(count, 'oblique edge')} squared off to {'a corner' if count == 1 else 'corners'}", count, view))
 
 
 def radii_told(circles: Sequence[given.Squared]) -> str:
@@ -425,7 +430,7 @@ def drawings(found: Found) -> Iterator[sheet.Alike]:
 
 def tried(found: Found, reading: Reading, number: int, count: int) -> sheet.Drawn | Refused:
     """The drawing of one reading, by its number among as many as there are ways to square the oblique edges of each; or why it has none."""
-    notes: list[str] = []
+    notes: list[Note] = []
     ways = len(found.corners)
     try:
         made = drawn(found, reading, found.corners[(number - 1) % ways], (number, count * ways), notes.append)
@@ -434,7 +439,7 @@ def tried(found: Found, reading: Reading, number: int, count: int) -> sheet.Draw
     return made._replace(notes=notes, is_plain=number <= count * ways)
 
 
-def first(path: str | None, read_sheet: Sheet, marks: Sequence[Mark], arguments: argparse.Namespace, tell: sheet.Tell) -> sheet.Drawn:
+def first(path: str | None, read_sheet: Sheet, marks: Sequence[Mark], arguments: argparse.Namespace, tell: Tell) -> sheet.Drawn:
     """The drawing of the first reading of a sheet that has one, and those of the others."""
     found = read(path, read_sheet, marks, arguments, tell)
     if not found.arcs and not any(found.corners):

@@ -62,7 +62,7 @@ def given_shapes(arguments: argparse.Namespace) -> tuple[str, dict[int, Solid], 
 
 def asked_of(arguments: argparse.Namespace) -> asking.Asked:
     """What the program says; refused where that is no whole list."""
-    asked = asking.ask(arguments.drawing, arguments, lambda text: say(f"draft step: {text}"))
+    asked = asking.ask(arguments.drawing, arguments, lambda note: say(f"draft step: {note}"))
     head = asked.run.text.partition("\n")[0]
     if FAULT.fullmatch(head):
         raise Refused("; ".join(faults.told(head, asked.lines)))

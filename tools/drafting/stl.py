@@ -100,7 +100,7 @@ def of_recon(asked: asking.Asked, number: int, arguments: argparse.Namespace) ->
 
 
 def run(arguments: argparse.Namespace) -> int:
-    asked = clean.redrawn(arguments, lambda text: say(f"draft stl: {text}"))
+    asked = clean.redrawn(arguments, lambda note: say(f"draft stl: {note}"))
     if asked.rounds:
         from .meshes import SIDES
         text = of_rounds(asked, arguments.solid)

@@ -8,15 +8,16 @@ since what a view shows is drawn anew. The document is only read.
 import contextlib
 import itertools
 from collections import Counter, defaultdict
-from collections.abc import Callable, Iterator, Sequence
+from collections.abc import Iterator, Sequence
 from typing import Any, NamedTuple
 
+from . import noted
 from .cad import FreeCAD, Part
 from .documents import Page, View, check_file
 from .drawing import FURTHER, VIEWS
 from .messages import Refused, many
+from .noted import Tell
 
-Tell = Callable[[str], None]
 # How far from square directions may be, and from one another.
 NEAR = 1e-6
 VIEW_TYPES = ("TechDraw::DrawViewPart", "TechDraw::DrawViewPartPython", "TechDraw::DrawProjGroupItem")
@@ -98,13 +99,13 @@ def by_parts(page: Any, tell: Tell) -> dict[tuple[str, ...], list[Any]]:
             kind = view.TypeId.rpartition("::")[2]
             left[OTHERS.get(kind, kind)] += 1
             if getattr(view, "Arbitrary", False):
-                tell(f"warning: {view.Label} says {view.FormatSpec} in words of its own, which aren't compared with the part")
+                tell(noted.warning(f"{view.Label} says {view.FormatSpec} in words of its own, which aren't compared with the part"))
         elif not sources_of(view):
             raise Refused(f"{view.Label} of page {page.Label} shows nothing: what it showed isn't in the document any more")
         else:
             parts[tuple(f"{it.Document.Name}#{it.Name}" for it in sources_of(view))].append(view)
     for what, count in left.items():
-        tell(f"left out: {count} {what} of page {page.Label}")
+        tell(noted.left_out(f"{count} {what} of page {page.Label}", count))
     return parts
 
 
@@ -124,7 +125,7 @@ def views_of_part(page: Any, named: str | None, tell: Tell) -> list[Any]:
     if not fit:
         raise Refused(f"{seen}: {'two views of one part are needed, or three' if named is None else f'none of a part called {named}'}")
     for key in parts.keys() - fit:
-        tell(f"left out: {told[key]}")
+        tell(noted.left_out(told[key], len(parts[key])))
     return parts[fit[0]]
 
 
@@ -153,9 +154,9 @@ def square_ones(views: Sequence[Any], tell: Tell) -> list[Looking]:
         is_square = all(any(abs(abs(way.dot(axis)) - 1) < NEAR for axis in first[1:]) for way in (it.towards, it.right))
         same = next((other for other in square if other.towards.dot(it.towards) > 1 - NEAR), None)
         if not is_square:
-            tell(f"left out: {it}, which looks aslant")
+            tell(noted.left_out(f"{it}, which looks aslant"))
         elif same:
-            tell(f"left out: {it}, which looks as {same} does")
+            tell(noted.left_out(f"{it}, which looks as {same} does"))
         else:
             square.append(it)
     return square
@@ -198,7 +199,7 @@ def outer_of(sources: Sequence[Any], tell: Tell) -> Any:
     outers = [it.getGlobalPlacement() * it.Placement.inverse() if hasattr(it, "getGlobalPlacement") and hasattr(it, "Placement")
               else FreeCAD.Placement() for it in sources]
     if not all(are_same(it, outers[0]) for it in outers):
-        tell(f"warning: {labels_of(sources)} are held in different places, without which they are drawn here")
+        tell(noted.warning(f"{labels_of(sources)} are held in different places, without which they are drawn here"))
         return FreeCAD.Placement()
     return outers[0]
 
@@ -239,7 +240,7 @@ def solids_of(sources: Sequence[Any], tell: Tell) -> tuple[Any, Any]:
     faces, edges = (sum(map(count, shapes)) - sum(map(count, solids)) for count in (lambda it: len(it.Faces), lambda it: len(it.Edges)))
     for count, what in ((faces, "face"), (edges, "edge")):
         if count > 0:
-            tell(f"left out: {many(count, what)} of {labels_of(sources)}, of no solid")
+            tell(noted.left_out(f"{many(count, what)} of {labels_of(sources)}, of no solid", count))
     whole = Part.makeCompound(solids)
     if not are_same(outer, FreeCAD.Placement()) and turns_with_holder():
         whole.Placement, outer = outer * whole.Placement, FreeCAD.Placement()
@@ -252,19 +253,19 @@ def taken(page: Any, part: str | None, tell: Tell) -> tuple[Page, dict[str, Look
     """What is taken of a page, and its views in the document by their names in the drawing. What is left out or changed is told."""
     views = views_of_part(page, part, tell)
     frame, names = named(square_ones(views, tell))
-    tell("found: " + ", ".join(f"{name} is {it}" for name, it in names.items()) + f" of page {page.Label}")
+    tell(noted.found(", ".join(f"{name} is {it}" for name, it in names.items()) + f" of page {page.Label}"))
     if not page.KeepUpdated:
-        tell(f"changed: page {page.Label} isn't kept up to date; the part is drawn as it is now")
+        tell(noted.changed(f"page {page.Label} isn't kept up to date; the part is drawn as it is now"))
     its = []
     for name, it in names.items():
         if count := len(it.of.CosmeticEdges) + len(it.of.CenterLines):
-            tell(f"left out: {many(count, 'line')} that somebody added to {it}")
+            tell(noted.left_out(f"{many(count, 'line')} that somebody added to {it}", count, name))
         its.append(View(name, str(it), bool(it.of.HardHidden), bool(it.of.SmoothVisible)))
     sources = sources_of(views[0])
     result = Page(str(page.Label), tuple(its), frame, *solids_of(sources, tell))
     if result.lacking:
-        tell(f"warning: page {page.Label} doesn't show hidden lines in {', '.join(it.label for it in result.lacking)}: what is said is of the "
-             "page with them")
+        tell(noted.warning(f"page {page.Label} doesn't show hidden lines in {', '.join(it.label for it in result.lacking)}: what is said "
+                           "is of the page with them"))
     return result, names
 
 

@@ -6,8 +6,9 @@ from .advice import Advisable, InTheWay, Noisy, Styleless
 from .drawing import VIEWS, Place
 from .groups import Group, meet
 from .messages import Refused, option
+from .noted import Things
 from .placing import Placed, main_named
-from .reading import Box, Edge, Unread, where
+from .reading import Box, Edge, Unread, thing_of, where
 
 # How far off a line may be noise, as a part of its view.
 NOISE = 0.01
@@ -18,9 +19,9 @@ def way_of_style(it: Unread) -> str:
     return f"say {option('visible')}, {option('hidden')} or {option('leave-out', f'linetype={it.linetype}')}"
 
 
-def refuse_unread(path: str | None, placed: Placed, unread: Sequence[Unread], tolerance: float) -> Counter[str]:
+def refuse_unread(path: str | None, placed: Placed, unread: Sequence[Unread], tolerance: float) -> Things:
     """Refuses what lies within a view and gives no edges; what lies beside the views."""
-    left: Counter[str] = Counter()
+    left: Things = Counter()
     for it in unread:
         if not it.box:
             raise InTheWay(f"a {where(it.source, path)} {it.why}, and where it lies can't be told: draw it otherwise", [it.source],
@@ -33,7 +34,7 @@ def refuse_unread(path: str | None, placed: Placed, unread: Sequence[Unread], to
         if near := view_in_line(it, placed, tolerance):
             raise refused(f"a {where(it.source, path)} {it.why}, and stands in line with {near}, where the view that lacks may be", it,
                           placed.views[near], placed, tolerance)
-        left[f"{it.source.kind} on layer {it.source.layer}, outside the views, which {it.why}"] += 1
+        left[thing_of(it.source, f"outside the views, which {it.why}")] += 1
     return left
 
 

@@ -112,7 +112,7 @@ def run(arguments: argparse.Namespace, listed: int) -> int:
     if arguments.answer or arguments.expect is not None:
         raise Usage("--answer and --expect are of what recon lists, and --visible-edges-alone asks clingo")
     least = argparse.Namespace(**{**vars(arguments), "nodes": 1, "solids": 1})
-    asked = asking.ask(arguments.drawing, least, lambda text: say(f"draft solve: {text}"))
+    asked = asking.ask(arguments.drawing, least, lambda note: say(f"draft solve: {note}"))
     head = asked.run.text.partition("\n")[0]
     if FAULT.fullmatch(head):
         raise Refused("; ".join(faults.told(head, asked.lines)))

@@ -363,7 +363,7 @@ def rounds_told(asked: asking.Asked) -> list[str]:
 
 
 def run(arguments: argparse.Namespace) -> int:
-    asked = asking.ask(arguments.drawing, arguments, lambda text: say(f"draft why: {text}"))
+    asked = asking.ask(arguments.drawing, arguments, lambda note: say(f"draft why: {note}"))
     head = known_head(asked)
     if asked.rounds and not head.startswith("whole 0 "):
         write_result("".join(f"{row}\n" for row in rounds_told(asked)), None)

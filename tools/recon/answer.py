@@ -10,6 +10,7 @@ from typing import TYPE_CHECKING, Any, overload
 from drafting import asking, blocks, clean, cells, chosen, program, records, settle as settling, step, stl, why as looking
 from drafting.drawing import written
 from drafting.messages import write_result
+from drafting.noted import Note
 
 from .errors import DrawingFault, NotThere, OptionError, raised_as
 from .told import Settling, Why, groups_of, line_of, suggestion_of
@@ -122,10 +123,10 @@ class Solid:
 class Answer:
     """What recon says of a drawing: its solids, in recon's order, each once."""
 
-    def __init__(self, asked: asking.Asked, arguments: argparse.Namespace, notes: records.Notes, name: str | None) -> None:
+    def __init__(self, asked: asking.Asked, arguments: argparse.Namespace, notes: Sequence[Note], name: str | None) -> None:
         self._asked, self._arguments = asked, arguments
-        self.notes: list[records.Note] = list(notes)
-        """What was found, changed, left out and drawn, and of what is warned: `kind`, `what`, `count`, and as text a sentence."""
+        self.notes: list[Note] = list(notes)
+        """What was found, changed, left out and drawn, and of what is warned: `kind`, `what`, `count`, `view`, `layer`, `entity`, and as text a sentence."""
         told = records.record(asked, arguments, notes, 0)
         if told["fault"]:
             raise DrawingFault(told["fault"])

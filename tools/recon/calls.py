@@ -5,8 +5,9 @@ import pathlib
 import tempfile
 from typing import Any, NoReturn
 
-from drafting import asking, files, records
+from drafting import asking, files
 from drafting.messages import Usage
+from drafting.noted import Note
 
 from .answer import Answer
 from .errors import SearchCut, SheetRefused, raised_as
@@ -62,8 +63,8 @@ def answered(path: Path | None, name: str | None, strict: bool, options: dict[st
     with raised_as(SheetRefused):
         arguments = arguments_of(options)
         arguments.drawing = None if path is None else os.fspath(path)
-        notes = records.Notes()
-        asked = asking.ask(arguments.drawing, arguments, notes.take)
+        notes: list[Note] = []
+        asked = asking.ask(arguments.drawing, arguments, notes.append)
     answer = Answer(asked, arguments, notes, name)
     if strict and not answer.is_whole:
         raise SearchCut(f"the list isn't whole: {answer.text.partition(chr(10))[0]}", answer)

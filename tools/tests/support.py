@@ -10,6 +10,7 @@ from typing import Any, NamedTuple
 
 from drafting import program
 from drafting.messages import Refused
+from drafting.noted import Note, Tell
 
 TOOLS = pathlib.Path(__file__).resolve().parent.parent
 EXAMPLES = TOOLS.parent / "examples"
@@ -29,6 +30,14 @@ def draft(*words: object, data: bytes = b"", seconds: float = 600) -> Ended:
     command = [str(TOOLS / "draft"), *map(str, words)]
     done = subprocess.run(command, input=data, capture_output=True, timeout=seconds)
     return Ended(done.returncode, done.stdout.decode(), done.stderr.decode())
+
+
+def in_words(said: list[str]) -> Tell:
+    """Takes what is told as sentences."""
+    def take(note: Note) -> None:
+        said.append(str(note))
+
+    return take
 
 
 def is_built() -> bool:

@@ -7,7 +7,7 @@ import unittest
 from collections.abc import Callable, Iterator, Sequence
 from typing import Any
 
-from drafting import asking, sheet
+from drafting import asking, noted, sheet
 from drafting.messages import Refused
 
 from .support import EXAMPLES, needs_module, needs_program
@@ -120,7 +120,7 @@ class Advice(unittest.TestCase):
 
     def refusal(self, file: pathlib.Path, words: Sequence[str]) -> str:
         try:
-            sheet.draw(str(file), arguments("sheet", file, *words), lambda text: None)
+            sheet.draw(str(file), arguments("sheet", file, *words), noted.tell_none)
         except Refused as refusal:
             return " ".join(str(refusal).split())
         return ""
@@ -185,8 +185,8 @@ class Advice(unittest.TestCase):
             file = self.folder / "half.dxf"
             doc.saveas(file)
             with self.assertRaises(Refused) as caught:
-                asking.ask(str(file), arguments("solve", file), lambda text: None)
+                asking.ask(str(file), arguments("solve", file), noted.tell_none)
             self.assertIn("say --scale 1:2", str(caught.exception))
             self.assertEqual("--as-is" in str(caught.exception), layers)
-            taken = asking.ask(str(file), arguments("solve", "--as-is", file), lambda text: None).run
+            taken = asking.ask(str(file), arguments("solve", "--as-is", file), noted.tell_none).run
             self.assertEqual(taken.status, 0 if layers else 1)

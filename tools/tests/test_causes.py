@@ -7,12 +7,12 @@ import unittest
 from collections.abc import Callable, Sequence
 from typing import Any, NamedTuple
 
-from drafting import sheet
+from drafting import noted, sheet
 from drafting.drawing import Stroke, lines_within, strokes_in
 from drafting.messages import Refused
 
 from . import sheets
-from .support import EXAMPLES, draft, needs_command, needs_module, needs_program
+from .support import EXAMPLES, draft, in_words, needs_command, needs_module, needs_program
 from .test_sheet import arguments
 
 Box = tuple[float, float, float, float]
@@ -161,7 +161,7 @@ class Causes(unittest.TestCase):
     def one(self, row: Row, file: pathlib.Path) -> None:
         said: list[str] = []
         try:
-            sheet.draw(str(file), arguments("sheet", file, *row.words), said.append)
+            sheet.draw(str(file), arguments("sheet", file, *row.words), in_words(said))
         except Refused as refusal:
             self.assertTrue(row.refused, f"refused: {refusal}")
             self.assertRegex(" ".join(str(refusal).split()), row.refused)
@@ -178,12 +178,12 @@ class Causes(unittest.TestCase):
             for name, hidden in (("whole", True), ("visible", False)):
                 drawn = {view: [it for it in its if hidden or not it[0]] for view, its in VIEWS.items()}
                 files.append(self.made(lambda space: sheets.draw(space, drawn, places, lambda view, dashed: {"layer": view}), folder, name))
-            made = sheet.draw(str(files[0]), arguments("sheet", files[0], "--visible-only", files[1]), lambda text: None)
+            made = sheet.draw(str(files[0]), arguments("sheet", files[0], "--visible-only", files[1]), noted.tell_none)
             pair = pathlib.Path(folder) / "whole.visible.dxf"
             files[1].rename(pair)
-            again = sheet.draw(str(files[0]), arguments("sheet", files[0], "--pairs"), lambda text: None)
+            again = sheet.draw(str(files[0]), arguments("sheet", files[0], "--pairs"), noted.tell_none)
             plain = self.made(views, folder, "plain")
-            own = sheet.draw(str(plain), arguments("sheet", plain), lambda text: None)
+            own = sheet.draw(str(plain), arguments("sheet", plain), noted.tell_none)
         self.assertEqual(made.text, again.text)
         self.assertEqual(strokes(made), strokes(own))
 

@@ -9,11 +9,11 @@ import zipfile
 from collections.abc import Callable
 from typing import Any, NamedTuple
 
-from drafting import asking, left_open
+from drafting import asking, left_open, noted
 from drafting.messages import Refused
 
 from .parts import Box, boxes_of, cells_of
-from .support import TOOLS, draft, needs_long, needs_program
+from .support import TOOLS, draft, in_words, needs_long, needs_program
 
 try:
     from drafting.cad import FreeCAD, Part
@@ -50,7 +50,7 @@ def arguments(*words: object) -> argparse.Namespace:
 def told(path: pathlib.Path, known: Any, *words: object) -> Told:
     """What comes of a document, of whose solids those are told that are a known shape where that stands."""
     said: list[str] = []
-    asked = asking.ask(str(path), arguments(*words), said.append)
+    asked = asking.ask(str(path), arguments(*words), in_words(said))
     its = list(in_place.stood(asked))
     same = [at for at, it in enumerate(its, 1) if it.is_part and it.shape.cut(known).Volume + known.cut(it.shape).Volume < 1e-6 * known.Volume]
     return Told(said, same, len(its), asked)
@@ -370,7 +370,7 @@ class Traps(unittest.TestCase):
             one.doc.recompute()
             before = [(tuple(it.Direction), tuple(it.XDirection), it.HardHidden, it.State) for it in group.Views]
             from drafting import techdraw
-            page, _ = techdraw.taken(techdraw.page_of(one.doc, None), None, lambda text: None)
+            page, _ = techdraw.taken(techdraw.page_of(one.doc, None), None, noted.tell_none)
             self.assertEqual([(tuple(it.Direction), tuple(it.XDirection), it.HardHidden, it.State) for it in group.Views], before)
             self.assertEqual(tuple(group.Views[0].Direction), (0.0, -2.0, 0.0))
             names = [it.Name for it in one.doc.Objects]

@@ -9,7 +9,7 @@ from drafting import asking, command
 from drafting.answers import answer_of
 from drafting.messages import Refused
 
-from .support import EXAMPLES, needs_module, needs_program
+from .support import EXAMPLES, in_words, needs_module, needs_program
 
 try:
     import ezdxf
@@ -162,7 +162,7 @@ class Forms(unittest.TestCase):
         """What came of a sheet, in one line: `=` and what is told of its solids, or `!` and the refusal."""
         said: list[str] = []
         try:
-            asked = asking.ask(str(file), PARSER.parse_args(["solve", str(file), *words.split()]), said.append)
+            asked = asking.ask(str(file), PARSER.parse_args(["solve", str(file), *words.split()]), in_words(said))
         except Refused as refusal:
             return "!" + " ".join(str(refusal).split())
         answer = answer_of(asked.run.text)

@@ -14,7 +14,8 @@ from fractions import Fraction
 from typing import Any
 
 import recon
-from drafting.records import KINDS, exact, note_of
+from drafting.noted import KINDS
+from drafting.records import exact
 
 from .support import EXAMPLES, TOOLS, draft, needs_command, needs_module, needs_program
 
@@ -97,7 +98,9 @@ class Records(InAFolder):
         told = self.record(SHEETS / "clevis_sheet.dxf")
         self.assertEqual((told["drawing"]["read"], told["count"]), ("sheet", 1))
         self.assertTrue(all(note["kind"] in KINDS for note in told["notes"]), told["notes"])
-        self.assertTrue(any(note["count"] for note in told["notes"] if note["kind"] == "left out"))
+        said = draft("solve", SHEETS / "clevis_sheet.dxf").said.splitlines()
+        self.assertEqual([f"draft solve: {note['kind']}: {note['what']}" for note in told["notes"]], said)
+        self.assertTrue(any(note["count"] and note["entity"] == "LINE" and note["layer"] for note in told["notes"]), told["notes"])
 
     @needs_module("ezdxf", "python3-ezdxf")
     def test_a_volume_with_pi(self) -> None:
@@ -132,12 +135,6 @@ class Numbers(unittest.TestCase):
     def test_numbers_are_exact(self) -> None:
         for value, wanted in (("3", "3"), ("-1/8", "-0.125"), ("1/3", "1/3"), ("-22/7", "-22/7"), ("1001/1000", "1.001"), ("0", "0"), ("1/1024", "0.0009765625")):
             self.assertEqual(exact(Fraction(value)), wanted)
-
-    def test_notes_are_sentences(self) -> None:
-        for text, kind, count in (("left out: 1,203 LINE on layer FRAME", "left out", 1203), ("found: lengths in mm", "found", None),
-                                  ("changed: 3 LINEs taken: as visible", "changed", 3)):
-            note = note_of(text)
-            self.assertEqual((str(note), note.kind, note.count), (text, kind, count))
 
 
 @needs_program()

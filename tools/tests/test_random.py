@@ -10,7 +10,7 @@ from typing import Any
 from drafting import program, sheet
 from drafting.drawing import FURTHER, lines_within, views_of, written
 
-from .support import EXAMPLES, needs_module, needs_program
+from .support import EXAMPLES, in_words, needs_module, needs_program
 from .test_sheet import arguments, plain_answer, solved
 
 try:
@@ -59,7 +59,7 @@ class RandomSheets(unittest.TestCase):
         file, words = self.drawn(chance, views, folder, angle, left)
         words += ["--angle", angle] if "BOTTOM" in further else []
         said: list[str] = []
-        made = sheet.draw(str(file), arguments("sheet", file, *words), said.append)
+        made = sheet.draw(str(file), arguments("sheet", file, *words), in_words(said))
         self.assertEqual(made.origin.mirrored, mirrored)
         # Lengths are those of the drawing, times what the scale and the decimals make of them.
         own, told = plain_views(base.read_bytes(), 0), plain_views(made.text.encode(), made.decimals)

@@ -11,7 +11,7 @@ from drafting import asking, command
 from drafting.messages import Refused
 from drafting.solve import rounded_told
 
-from .support import draft, needs_long, needs_module, needs_program
+from .support import draft, in_words, needs_long, needs_module, needs_program
 
 try:
     from drafting.cad import Part
@@ -40,7 +40,7 @@ class InAFolder(unittest.TestCase):
 
     def asked(self, *words: object) -> asking.Asked:
         self.said: list[str] = []
-        return asking.ask(str(self.file), arguments("solve", self.file, *words), self.said.append)
+        return asking.ask(str(self.file), arguments("solve", self.file, *words), in_words(self.said))
 
     def exact(self, shape: Any, asked: asking.Asked | None = None) -> None:
         """Just this part is kept."""

@@ -12,7 +12,7 @@ from drafting.drawing import Stroke, lines_within, strokes_in
 from drafting.messages import Refused
 
 from . import sheets
-from .support import EXAMPLES, needs_module
+from .support import EXAMPLES, in_words, needs_module
 from .test_sheet import arguments
 
 Place = tuple[float, float]
@@ -156,7 +156,7 @@ class Sections(unittest.TestCase):
         with tempfile.TemporaryDirectory() as folder:
             file = pathlib.Path(folder) / "sheet.dxf"
             drawing.doc.saveas(file)
-            made = sheet.draw(str(file), arguments("sheet", file, *words), said.append)
+            made = sheet.draw(str(file), arguments("sheet", file, *words), in_words(said))
         return strokes_in(lines_within(made.text.encode()), made.decimals), said
 
     def test_in_the_place_of_a_view(self) -> None:

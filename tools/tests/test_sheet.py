@@ -5,14 +5,14 @@ import tempfile
 import unittest
 from fractions import Fraction
 
-from drafting import asking, command, program, sheet
+from drafting import asking, command, noted, program, sheet
 from drafting.answers import Solid, answer_of, turned_round
 from drafting.cells import grid_round
 from drafting.drawing import FURTHER, lines_within, views_of
 from drafting.messages import Refused
 from drafting.panels import Shown, further_of, shown_of
 
-from .support import EXAMPLES, draft, needs_module, needs_program
+from .support import EXAMPLES, draft, in_words, needs_module, needs_program
 
 try:
     from . import sheets
@@ -86,7 +86,7 @@ class Sheets(unittest.TestCase):
         said: list[str] = []
         words = arguments("sheet", made.file, *made.words)
         try:
-            drawn = sheet.draw(str(made.file), words, said.append)
+            drawn = sheet.draw(str(made.file), words, in_words(said))
         except Refused as refusal:
             self.assertTrue(made.refusal, f"refused: {refusal}; {said}")
             self.assertRegex(str(refusal), made.refusal)
@@ -121,7 +121,7 @@ class LeftViews(unittest.TestCase):
             with self.subTest(angle), tempfile.TemporaryDirectory() as folder:
                 file = pathlib.Path(folder) / "left.dxf"
                 doc.saveas(file)
-                asked = asking.ask(str(file), arguments("solve", file), lambda text: None)
+                asked = asking.ask(str(file), arguments("solve", file), noted.tell_none)
                 answer = asked.answer()
                 self.assertEqual([solid.volume for solid in answer.solids], [25])
                 corners = {corner for face in answer.solids[0].faces for loop in face.loops for corner in loop}
@@ -148,7 +148,7 @@ class BrokenFiles(unittest.TestCase):
                 file = pathlib.Path(folder) / f"{name}.dxf"
                 file.write_bytes(data)
                 with self.subTest(name), self.assertRaisesRegex(Refused, words):
-                    sheet.draw(str(file), arguments("sheet", file), lambda text: None)
+                    sheet.draw(str(file), arguments("sheet", file), noted.tell_none)
 
     def test_a_file_that_is_too_long(self) -> None:
         from drafting import reading
@@ -157,14 +157,14 @@ class BrokenFiles(unittest.TestCase):
             with open(file, "wb") as out:
                 out.truncate(reading.MOST_BYTES + 1)
             with self.assertRaisesRegex(Refused, "more than 67,108,864"):
-                sheet.draw(str(file), arguments("sheet", file), lambda text: None)
+                sheet.draw(str(file), arguments("sheet", file), noted.tell_none)
 
     def test_a_drawing_of_more_than_16_mib_is_drawn_anew(self) -> None:
         text = (EXAMPLES / "clevis.dxf").read_bytes()
         with tempfile.TemporaryDirectory() as folder:
             file = pathlib.Path(folder) / "long.dxf"
             file.write_bytes((b"999\n" + b"-" * 999_999 + b"\n") * 17 + text)
-            drawn = sheet.draw(str(file), arguments("sheet", file), lambda text: None)
+            drawn = sheet.draw(str(file), arguments("sheet", file), noted.tell_none)
         self.assertLess(len(drawn.text), 20_000)
 
     def test_blocks_that_stand_in_themselves_or_multiply(self) -> None:
@@ -184,7 +184,7 @@ class BrokenFiles(unittest.TestCase):
             most, reading.MOST_ENTITIES = reading.MOST_ENTITIES, 20_000
             try:
                 with self.assertRaisesRegex(Refused, "more than 20,000 entities"):
-                    sheet.draw(str(file), arguments("sheet", file), lambda text: None)
+                    sheet.draw(str(file), arguments("sheet", file), noted.tell_none)
             finally:
                 reading.MOST_ENTITIES = most
 

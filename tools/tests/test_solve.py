@@ -4,10 +4,10 @@ import pathlib
 import tempfile
 import unittest
 
-from drafting import sheet
+from drafting import noted, sheet
 from drafting.messages import Refused
 
-from .support import EXAMPLES, draft, needs_command, needs_module, needs_program
+from .support import EXAMPLES, draft, in_words, needs_command, needs_module, needs_program
 from .tables import made
 from .test_sheet import arguments
 
@@ -82,7 +82,7 @@ class Files(unittest.TestCase):
                 file = pathlib.Path(folder) / name
                 file.write_bytes(data)
                 with self.subTest(name), self.assertRaisesRegex(Refused, f"{name} {words}"):
-                    sheet.draw(str(file), arguments("sheet", file), lambda text: None)
+                    sheet.draw(str(file), arguments("sheet", file), noted.tell_none)
 
     @needs_program()
     def test_a_file_for_each_view(self) -> None:
@@ -99,7 +99,7 @@ class Files(unittest.TestCase):
         with tempfile.TemporaryDirectory() as folder:
             words = arguments("sheet", *in_files(folder, circle_in="TOP"))
             with self.assertRaisesRegex(Refused, r"in TOP a CIRCLE \w+ on layer 0, line [\d,]+ of top_view.dxf is no straight line"):
-                sheet.draw(None, words, lambda text: None)
+                sheet.draw(None, words, noted.tell_none)
 
     @needs_program()
     def test_a_fault_of_a_sheet_is_told_in_its_own_words(self) -> None:
@@ -146,12 +146,12 @@ class Files(unittest.TestCase):
                 doc.saveas(file)
                 with self.subTest(frame.name):
                     said: list[str] = []
-                    sheet.draw(str(file), arguments("sheet", file), said.append)
+                    sheet.draw(str(file), arguments("sheet", file), in_words(said))
                     self.assertIn("a part 6 wide, 4 deep and 4 high", "\n".join(said))
                     self.assertIn("left out: a frame round all the rest", "\n".join(said))
         for symbol in sorted((LIBRARY / "block").glob("*.dxf"))[:5]:
             with self.subTest(symbol.name), self.assertRaisesRegex(Refused, "no way to take three|no straight line"):
-                sheet.draw(str(symbol), arguments("sheet", symbol), lambda text: None)
+                sheet.draw(str(symbol), arguments("sheet", symbol), noted.tell_none)
 
     @needs_program()
     @needs_command("parallel", "parallel")

@@ -4,13 +4,13 @@ import re
 import tempfile
 import unittest
 
-from drafting import asking, pairs, program, sheet, visible
+from drafting import asking, noted, pairs, program, sheet, visible
 from drafting.answers import answer_of
 from drafting.drawing import VIEWS, lines_within, missing_in, strokes_in, views_of, written
 from drafting.messages import Refused, Usage
 from drafting.panels import grid_of, sheet_of
 
-from .support import EXAMPLES, draft, needs_command, needs_module, needs_program
+from .support import EXAMPLES, draft, in_words, needs_command, needs_module, needs_program
 from .test_sheet import arguments
 
 try:
@@ -53,7 +53,7 @@ class InAFolder(unittest.TestCase):
 
     def drawn(self, file: pathlib.Path, *words: object) -> tuple[sheet.Drawn, str]:
         said: list[str] = []
-        drawn = sheet.draw(str(file), arguments("sheet", file, *words), said.append)
+        drawn = sheet.draw(str(file), arguments("sheet", file, *words), in_words(said))
         return drawn, "\n".join(said)
 
     def refusal(self, file: pathlib.Path, *words: object) -> str:
@@ -149,10 +149,10 @@ class Placed(InAFolder):
             for view in (it for it in VIEWS if it != missing):
                 words += [f"--{view.lower()}", self.saved({view: self.views[view]}, {view: (0, 0)}, name=view.lower())]
             said: list[str] = []
-            sheet.draw(None, arguments("sheet", *words), said.append)
+            sheet.draw(None, arguments("sheet", *words), in_words(said))
             self.assertIn(f"the names of files: {', '.join(sorted(it for it in VIEWS if it != missing))}; two views, without {missing}", "\n".join(said))
         with self.assertRaises(Usage):
-            sheet.draw(None, arguments("sheet", *words[:2]), lambda text: None)
+            sheet.draw(None, arguments("sheet", *words[:2]), noted.tell_none)
 
 
 @needs_program()
@@ -222,13 +222,13 @@ class Asked(InAFolder):
         views: sheets.Views = {view: [(False, ((a, b), (c, d))) for a, b, c, d in lines] for view, lines in (("FRONT", FRONT), ("TOP", TOP))}
         file = self.saved(views, {"FRONT": (0, 0), "TOP": (0, 10)})
         with self.assertRaisesRegex(Refused, "recon lists in third angle 3 solids; in first angle 3 solids"):
-            asking.ask(str(file), arguments("solve", file), lambda text: None)
+            asking.ask(str(file), arguments("solve", file), noted.tell_none)
         with self.assertRaises(pairs.TwoReadings):
             self.drawn(file)
         part = sheets.views_in(EXAMPLES / "clevis.dxf")
         file = self.saved({view: part[view] for view in ("FRONT", "TOP")}, sheets.places_of(part))
         said: list[str] = []
-        asked = asking.ask(str(file), arguments("solve", file), said.append)
+        asked = asking.ask(str(file), arguments("solve", file), in_words(said))
         self.assertIn("found: two views, in third angle, since in the other no solid has them", said)
         self.assertEqual([solid.volume for solid in asked.answer().solids], [41])
 

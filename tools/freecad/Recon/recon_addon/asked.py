@@ -44,7 +44,7 @@ class Asking:
     def events(self) -> Iterator[dict[str, object]]:
         from drafting import asking
         yield {"stage": "searched"}
-        asked = asking.ask(self.path, self.arguments, lambda text: tell(told=text))
+        asked = asking.ask(self.path, self.arguments, lambda note: tell(told=str(note)))
         (self.folder / "drawing.dxf").write_bytes(asked.data)
         (self.folder / "answer.txt").write_text(asked.run.text)
         count = self.count_of(asked)

@@ -257,17 +257,17 @@ class PagePanel(Panel):
     def ask(self, child: Child) -> None:
         """Takes the page here, since links to other documents are known here alone; it is drawn by the other process."""
         settings.with_tools()
-        from drafting import anew, techdraw
+        from drafting import anew, noted, techdraw
         self.forget()
-        self.ways, self.part, told = [], 0, list[str]()
+        self.ways, self.part, notes = [], 0, list[noted.Note]()
         try:
-            page, views = techdraw.taken(self.page, self.meant, told.append)
+            page, views = techdraw.taken(self.page, self.meant, notes.append)
         except techdraw.SeveralParts as several:
             for label in several.labels:
                 self.button(translate("Recon", "Views of {}", label), functools.partial(self.choose, label))
             raise
         self.views = {name: view.of for name, view in views.items()}
-        child.begin(anew.saved(page, told, child.folder), [])
+        child.begin(anew.saved(page, notes, child.folder), [])
 
     def choose(self, label: str) -> None:
         """Asks about one of several parts."""
