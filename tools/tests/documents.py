@@ -1,4 +1,5 @@
 """Documents of FreeCAD as people make them: parts and pages of TechDraw with projection groups and single views."""
+import itertools
 import math
 import pathlib
 from collections.abc import Sequence
@@ -43,6 +44,13 @@ def quartered(choice: str = "01101001") -> Any:
     two others by its left view."""
     cells = [box(10, 10, 10, 10 * (at % 2), 10 * (at // 2 % 2), 10 * (at // 4)) for at, full in enumerate(choice) if full == "1"]
     return cells[0].multiFuse(cells[1:]).removeSplitter()
+
+
+def without_a_corner() -> Any:
+    """A cube of whose corner a piece with four sides is cut off: oblique edges in each view."""
+    corners = [vector(at) for at in ((20, 20, 20), (14, 20, 20), (20, 12, 20), (20, 20, 15))]
+    sides = [Part.Face(Part.makePolygon([*its, its[0]])) for its in itertools.combinations(corners, 3)]
+    return box(20, 20, 20).cut(Part.Solid(Part.Shell(sides)))
 
 
 def corner() -> Any:

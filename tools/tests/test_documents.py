@@ -19,7 +19,7 @@ try:
     from drafting.cad import FreeCAD, Part
 
     from . import documents
-    from .documents import Document, box, corner, placement, quartered
+    from .documents import Document, box, corner, placement, quartered, without_a_corner
     from drafting import in_place
     missing = ""
 except Refused:
@@ -200,6 +200,7 @@ LISTED: dict[str, tuple[Make, tuple[str, ...], str]] = {
     "parts that stand apart": (lambda one: assembled(one, box(10, 10, 10), box(10, 10, 20, 20)), (), "2 solids are taken as one part"),
     "a link that stands for several": (linked_often, (), "3 solids are taken as one part"),
     "a slot": (with_a_slot, (), "2 circles or rounds squared off"),
+    "a chamfer": (lambda one: in_a_group(one, chamfered()), (), "in TOP 1 oblique edge squared off to a corner"),
     "rounded corners": (with_rounded_corners, (), "left out: 6 smooth edges, which the page draws"),
     "lengths in thirds, far from the middle": (
         lambda one: in_a_group(one, box(10, 10 / 3, 20 / 3, 1234.5, -99).cut(box(10 / 3, 10 / 3, 10 / 3, 1234.5, -99))), (), "lengths multiplied by 3"),
@@ -252,8 +253,8 @@ REFUSED: dict[str, tuple[Make, str]] = {
     "perspective": (lambda one: in_a_group(one, corner(), Perspective=True), "is in perspective"),
     "front and rear alone": (lambda one: in_a_group(one, corner(), ("Rear",)), "views along two axes are needed.*Front, Rear show one"),
     "a part aslant to the page": (
-        lambda one: one.group(one.page(), [one.feature(corner(), placed=placement(degrees=30))]), "a line of the page's view .* from its lower left corner on: it is oblique"),
-    "a chamfer": (lambda one: in_a_group(one, chamfered()), "it is oblique"),
+        lambda one: one.group(one.page(), [one.feature(corner(), placed=placement(degrees=30))]), r"an oblique edge from .* \(line of the page's view \w+\) is squared off to neither corner"),
+    "a corner cut off": (lambda one: in_a_group(one, without_a_corner()), "a line of the page's view .* from its lower left corner on: it is oblique"),
     "an ellipse, all that is drawn in Top": (
         lambda one: in_a_group(one, elliptic()), "a curve of the page's view Top is a Ellipse, and stands in line with FRONT, where the view that lacks may be"),
     "a surface": (lambda one: in_a_group(one, Part.makePlane(10, 10)), "has no solid in it"),

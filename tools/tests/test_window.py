@@ -21,7 +21,7 @@ from .support import EXAMPLES, TOOLS, needs_command, needs_long, needs_module, n
 try:
     from drafting.cad import Part
     from . import documents
-    from .documents import Document, box, corner, quartered
+    from .documents import Document, box, corner, quartered, without_a_corner
     missing = ""
 except Refused:
     missing = "apt-get install freecad-python3"
@@ -54,8 +54,7 @@ def make_documents(folder: str) -> None:
     group("no_hidden", corner(), HardHidden=False)
     group("hole", box(40, 30, 10).fuse(box(10, 30, 20)).cut(Part.makeCylinder(5, 10, documents.vector((25, 15, 0)))).removeSplitter())
     group("perspective", corner(), Perspective=True)
-    chamfer = box(20, 20, 20)
-    group("chamfer", chamfer.makeChamfer(3, chamfer.Edges[:1]))
+    group("cut_corner", without_a_corner())
     one = Document()
     page, feature = one.page(), one.feature(quartered("10110110"))
     for x, (direction, right) in enumerate((((0, -1, 0), (1, 0, 0)), ((0, 0, 1), (1, 0, 0)), ((1, 0, 0), (0, 1, 0)))):

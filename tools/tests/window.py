@@ -189,12 +189,12 @@ def a_hole_and_a_link() -> None:
 
 
 def refusals() -> None:
-    for name, cause in (("perspective", "is in perspective"), ("chamfer", "it is oblique"), ("two_parts", "which part is meant")):
+    for name, cause in (("perspective", "is in perspective"), ("cut_corner", "it is oblique"), ("two_parts", "which part is meant")):
         doc = opened(name)
         panel = asked(doc)
         same((panel.state, panel.verdict.text(), listed(panel)), ("refused", "NOT READ", []))
         holds(cause, panel.sentence.text())
-        if name == "chamfer":
+        if name == "cut_corner":
             pictured("refused")
         if name == "two_parts":
             same([it.text() for it in buttons(panel)], ["Views of Corner", "Views of Block"])
