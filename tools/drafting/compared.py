@@ -6,6 +6,7 @@ from collections.abc import Iterator, Mapping, Sequence
 from typing import NamedTuple
 
 from .cad import FreeCAD, Part, TechDraw
+from .cones import is_seam
 from .curves import angle_of
 from .drawing import Place
 from .given import NOWHERE, Given, Squared, Stretch, times
@@ -206,9 +207,11 @@ def place_told(key: tuple[float, ...], low: float, high: float) -> str:
 # ---- lines that were left out as smooth
 
 def unexplained(given: Given, found: Sequence[Drawn], unit: int) -> Iterator[str]:
-    """Stretches that were left out though no round's axis runs along them for their whole length."""
+    """Stretches that were left out though no round's axis runs along them for their whole length, and that are no seam of a cone."""
     near = min(NEAR, max(given.extent(axis) for axis in range(3)) * NEAR / SIZE)
     for stretch in given.smooth:
+        if any(is_seam(stretch, cone, near) for cone in given.cones):
+            continue
         frame = FRAMES[stretch.view]
         axis, along = (frame.right, frame.up) if stretch.is_upright else (frame.up, frame.right)
         covered = []
@@ -243,11 +246,16 @@ def smooth_doubts(shape: "Part.Shape", given: Given) -> tuple[int, int]:
         rows = rows_of(moved(drawn(shape, view, SMOOTH).lines, [], least)[0], [])
         left = [it for it in given.smooth if it.view == view]
         told = joined_near(rows_of([*given.lines.get(view, []), *(it.edge() for it in left)], []), rows)
-        other += sum(differs(it, rows) for it in left)
+        other += sum(differs(it, rows) for it in left if not any(is_seam(it, cone, NEAR) for cone in given.cones))
         for key, row in rows.items():
             lacking += sum(style_at(row, (low + high) / 2) == "solid" and style_at(told.get(key, []), (low + high) / 2) != "solid"
-                           for low, high in stretches((row, told.get(key, []))))
+                           for low, high in stretches((row, told.get(key, []))) if not is_of_cone(view, key, low, high, given))
     return other, lacking
+
+
+def is_of_cone(view: str, key: tuple[float, ...], low: float, high: float, given: Given) -> bool:
+    """Whether a stretch of a line is a cone's seam, whose direction nothing tells."""
+    return len(key) == 2 and any(is_seam(Stretch(view, key[0] == 1, key[1], low, high, False), cone, NEAR) for cone in given.cones)
 
 
 def differs(stretch: Stretch, rows: Mapping[tuple[float, ...], list[Span]]) -> bool:

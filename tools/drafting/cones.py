@@ -1,14 +1,16 @@
-"""Cones at the ends of round holes and bosses: drill points, countersinks, chamfers of shafts. Such a cone goes on from a cylinder, its
-*neck*, to its *end*: to a point, or to a circle round the same axis. Both views that see it from its side draw it as two oblique edges. Where
+"""Cones at the ends of round holes and bosses: drill points, countersinks, chamfers of shafts, and where a drill of two diameters goes over
+from one to the other. Such a cone goes on from a cylinder, its *neck*, to its *end*: to a point, or to a circle round the same axis. Both
+views that see it from its side draw it as two oblique edges. Where
 
-1. at its neck, and not at its end, the cylinder's walls go on;
+1. at its neck the cylinder's walls go on; where they go on at its end too, the neck is the narrower one;
 2. the neck's circle is drawn whole, and the end's unless that is a point;
 3. all views that see it from its side draw both edges, inside of the view's other lines;
 4. what the cone is cut from is full as far as its box reaches, or what it is added to empty: nothing else comes into its box,
 
 a point changes no other line, and is taken off; another cone shows what a cylinder of its end's circle shows with the neck's circle at its
-floor, and is *squared to that step*: each oblique edge becomes two lines along its corner. 1 to 3 are looked at here, and an oblique edge
-of no cone is refused; 4 for each solid, by its cells. Which of several holes in line have cones the edges don't always tell: each choice
+floor, and is *squared to that step*: each oblique edge becomes two lines along its corner; and where walls go on at its end, the line across
+there is left out, upon which nothing else may lie. 1 to 3 are looked at here, and an oblique edge of no cone is refused, unless it is a
+chamfer's (`chamfers.py`); 4 for each solid, by its cells. Which of several holes in line have cones the edges don't always tell: each choice
 of the solid's holes that draws all of them is put back and compared with the sheet.
 """
 import itertools
@@ -20,7 +22,7 @@ from typing import NamedTuple
 
 from .answers import Solid
 from .drawing import VIEWS, Place
-from .given import Cone, Given, Squared
+from .given import Cone, Given, Squared, Stretch
 from .panels import FRAMES
 from .reading import Box, Edge
 from .rounded import Drawn, is_full_in, spot
@@ -76,6 +78,10 @@ class Side(NamedTuple):
         """Whether lines go on along the axis at both sides, from a place on."""
         return self.has_line(radius, along + math.copysign(BESIDE * self.noise / OF_ONE, way))
 
+    def goes_on(self, end: float, depth: float, neck: float) -> bool:
+        """Whether lines go on at a cone's end too, away from its neck."""
+        return end > self.noise and self.has_wall(end, depth, depth - neck)
+
     def has_line(self, radius: float, along: float) -> bool:
         """Whether lines lie at a place along the axis, a radius beside it at both sides."""
         return all(any(covers(edge, self.place(sign * radius, along), self.noise / 2) for edge in self.panel.edges
@@ -87,7 +93,8 @@ class Side(NamedTuple):
             is_both = any(other.hidden == first.hidden and abs(a[1] - along) <= self.noise and abs(b[1] - depth) <= self.noise
                           and abs(b[0] - end) <= self.noise for other, a, b in self.flanks(radius, -1))
             is_flat = abs(end - radius) <= self.noise or abs(along - depth) <= self.noise
-            if is_both and not is_flat and self.has_wall(radius, along, along - depth) and not (end and self.has_wall(end, depth, depth - along)):
+            is_wider = end < radius and self.goes_on(end, depth, along)
+            if is_both and not is_flat and not is_wider and self.has_wall(radius, along, along - depth):
                 yield along, (end if end > self.noise else 0.0, depth)
 
 
@@ -160,14 +167,47 @@ def flanks_of(panels: Mapping[str, Panel], cones: Sequence[Cone], tolerance: flo
     """The oblique edges of cones."""
     noise = OF_ONE * tolerance
     for cone in cones:
-        one = next(it for it in panels[cone.view].circles if (it.centre, it.radius) == (cone.centre, cone.radius))
-        for side in sides_of(panels, cone.view, one, noise):
+        for side in sides_of(panels, cone.view, circle_of(panels, cone), noise):
             neck, end = (place_along(side.view, side.panel.box, FRAMES[cone.view].sight, it, True) for it in (cone.neck, cone.end))
             for sign in (1, -1):
                 for edge, (_, along), (other, depth) in side.flanks(cone.radius, sign):
                     if max(abs(along - neck), abs(depth - end), abs(other - cone.end_radius)) <= noise:
                         first = edge.start[1 if side.is_upright else 0]
                         yield Flank(side.view, edge, side.is_upright, abs(first - neck) < abs(first - end), cone.end_radius > 0)
+
+
+def across_ends(panels: Mapping[str, Panel], cones: Sequence[Cone], tolerance: float) -> Iterator[Stretch]:
+    """The lines across the ends of cones where walls go on there."""
+    for cone in cones:
+        for side in sides_of(panels, cone.view, circle_of(panels, cone), OF_ONE * tolerance):
+            neck, end = (place_along(side.view, side.panel.box, FRAMES[cone.view].sight, it, True) for it in (cone.neck, cone.end))
+            if side.goes_on(cone.end_radius, end, neck):
+                yield Stretch(side.view, not side.is_upright, end, side.at - cone.end_radius, side.at + cone.end_radius, False)
+
+
+def seams_of(panels: Mapping[str, Panel], cones: Sequence[Cone], tolerance: float) -> Iterator[Stretch]:
+    """Lines along cones, from one end to the other, in the views along their axes, which TechDraw draws as seams."""
+    noise = OF_ONE * tolerance
+    for cone in cones:
+        for is_upright, sign in itertools.product((False, True), (1, -1)):
+            across, along = cone.centre if is_upright else cone.centre[::-1]
+            low, high = sorted(along + sign * radius for radius in (cone.radius, cone.end_radius))
+            ends = [(across, it) if is_upright else (it, across) for it in (low, high)]
+            over = [edge.hidden for edge in panels[cone.view].edges if all(covers(edge, end, noise) for end in ends) and is_straight(edge, noise)]
+            if over:
+                yield Stretch(cone.view, is_upright, across, low, high, all(over), frozenset({(cone.view, round(cone.radius, 2))}))
+
+
+def is_seam(stretch: Stretch, cone: Cone, near: float) -> bool:
+    """Whether a stretch may be the seam of a cone."""
+    across, along = cone.centre if stretch.is_upright else cone.centre[::-1]
+    ends = sorted(abs(it - along) for it in (stretch.low, stretch.high))
+    return stretch.view == cone.view and abs(stretch.at - across) < near and all(
+        abs(a - b) < near for a, b in zip(ends, sorted((cone.radius, cone.end_radius))))
+
+
+def circle_of(panels: Mapping[str, Panel], cone: Cone) -> Round:
+    return next(it for it in panels[cone.view].circles if (it.centre, it.radius) == (cone.centre, cone.radius))
 
 
 # ---- in a solid
@@ -193,8 +233,9 @@ def fitted(cone: Cone, found: Sequence[Drawn], cuts: list[list[int]], is_full: F
     """The cone in a solid, where its neck goes on there to its end, and nothing else comes into its box."""
     frame, (x, y) = FRAMES[cone.view], (it * unit for it in cone.centre)
     neck, end = (float(min(cuts[frame.sight], key=lambda it: abs(it - at * unit))) for at in (cone.neck, cone.end))
-    end = end if cone.end_radius else cone.end * unit
-    if max(abs(neck - cone.neck * unit), abs(end - cone.end * unit)) > NEAR or neck == end:
+    # A point lies at no plane, nor does an end at which walls go on.
+    end = end if cone.end_radius and abs(end - cone.end * unit) <= NEAR else cone.end * unit
+    if abs(neck - cone.neck * unit) > NEAR or neck == end:
         return None
     way = 1 if end < neck else -1
     body = is_full(spot(cone.view, (x, y), neck + way / 2))
@@ -242,14 +283,17 @@ def choices(solid: Solid, found: Sequence[Drawn], given: Given, unit: int) -> li
         return [()]
     cuts, is_full = is_full_in(solid)
     its = {cone: one for cone in given.cones if (one := fitted(cone, found, cuts, is_full, unit))}
-    return [tuple(its[cone] for cone in chosen) for chosen in covering(list(its), given.cones)]
+    near = NEAR / unit
+    seen = [cone for cone in its if any(is_seam(stretch, cone, near) for stretch in given.smooth)]
+    return [tuple(its[cone] for cone in chosen) for chosen in covering(list(its), given.cones, seen)]
 
 
-def covering(its: Sequence[Cone], owed: Sequence[Cone]) -> list[tuple[Cone, ...]]:
-    """The choices of some cones that look from their sides as all that are owed do, the most first, as many as are tried at most."""
+def covering(its: Sequence[Cone], owed: Sequence[Cone], seen: Sequence[Cone] = ()) -> list[tuple[Cone, ...]]:
+    """The choices of some cones that look from their sides as all that are owed do, with all whose seams are seen, the most first, as many as
+    are tried at most."""
     looks = looks_of(owed)
     counts = Counter(look for cone in its for look in looks[cone])
-    sure = [cone for cone in its if cone.is_sure or any(counts[look] == 1 for look in looks[cone])]
+    sure = [cone for cone in its if cone.is_sure or cone in seen or any(counts[look] == 1 for look in looks[cone])]
     rest = [cone for cone in its if cone not in sure]
     every = ((*sure, *some) for size in range(len(rest), -1, -1) for some in itertools.combinations(rest, size))
     all_looks: frozenset[int] = frozenset().union(*looks.values())

@@ -135,7 +135,8 @@ def by_layer(groups: Sequence[Group]) -> Iterator[tuple[int, Why]]:
 
 
 def hatch_lines(runs: Sequence[Run], tolerance: float) -> list[Run]:
-    """Slanted lines of one way of which some don't begin and end where others do, as those of a hatch that was taken apart."""
+    """Slanted lines of one way of which some don't begin and end where others do, as those of a hatch that was taken apart; not where as many
+    go the other way, as in countersinks."""
     def at(place: tuple[float, float]) -> tuple[int, int]:
         return round(place[0] / (3 * tolerance)), round(place[1] / (3 * tolerance))
 
@@ -145,7 +146,8 @@ def hatch_lines(runs: Sequence[Run], tolerance: float) -> list[Run]:
         if run.oblique:
             (a, b), (c, d) = run.edge.start, run.edge.end
             ways[round(math.degrees(math.atan2(d - b, c - a)) % 180) % 180].append(run)
-    most: list[Run] = max(ways.values(), key=len, default=[])
+    way = max(ways, key=lambda it: len(ways[it]), default=0)
+    most = ways[way] if len(ways[-way % 180]) < len(ways[way]) else []
     loose = [run for run in most if any(ends[at(end)] == 1 for end in (run.edge.start, run.edge.end))]
     return most if len(loose) >= FEWEST_LINES else []
 

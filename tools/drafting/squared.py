@@ -36,10 +36,19 @@ MOST_ARCS, MOST_TOLD = 3_000, 8
 IN_LINE = 2e-3
 
 
+class Cones(NamedTuple):
+    """The cones of a sheet, from the views' least corners on; what their oblique edges become, the lines across their ends that are left out,
+    and those that may be their seams."""
+
+    its: Sequence[Cone]
+    flanks: Mapping[Edge, tuple[Edge, ...]]
+    across: Sequence[Stretch]
+    seams: Sequence[Stretch]
+
+
 class Found(NamedTuple):
     """What is read of a sheet, and its cutting-plane lines: its lines, its arcs within the views, and where these are;
-    its cones, from the views' least corners on, and what their oblique edges become; and the ways in which other oblique edges are squared
-    to corners."""
+    its cones, and the ways in which other oblique edges are squared to corners."""
 
     path: str | None
     sheet: Sheet
@@ -48,8 +57,7 @@ class Found(NamedTuple):
     arcs: list[Arc]
     placed: Placed
     arguments: argparse.Namespace
-    cones: Sequence[Cone] = ()
-    flanks: Mapping[Edge, tuple[Edge, ...]] = {}
+    cones: "Cones"
     corners: Sequence[tuple[chamfers.Squared, ...]] = ((),)
     has_all_corners: bool = True
 
@@ -183,17 +191,17 @@ def read(path: str | None, read_sheet: Sheet, marks: Sequence[Mark], arguments: 
         raise Refused(f"{missing[0]} isn't drawn, and a sheet with circles or arcs is read where all three main views are there: draw it too")
     # What no reading changes is refused at once.
     refuse_unread(path, placed, read_sheet.unread, tolerance)
-    found, flanks = cones_in(placed, edges, rounds.rounds_of(kept, tolerance), tolerance)
+    round_ones = cones_in(placed, edges, rounds.rounds_of(kept, tolerance), tolerance)
     views = Views({view: group.box for view, group in placed.views.items()}, edges, [], tolerance, placed.mirrored)
-    oblique, causes = chamfers.chamfers_of(views, flanks)
-    refuse_oblique(path, placed, [*flanks, *(edge for one in oblique for edge in one.edges)], lambda edge: not_taken(causes.get(edge)))
+    oblique, causes = chamfers.chamfers_of(views, round_ones.flanks)
+    refuse_oblique(path, placed, [*round_ones.flanks, *(edge for one in oblique for edge in one.edges)], lambda edge: not_taken(causes.get(edge)))
     for arc in kept:
         if not any(holds(group.box, arc_box(arc), OF_ONE * tolerance) for group in placed.views.values()):
             left.append(arc)
     counts = Counter(f"{arc.source.kind} on layer {arc.source.layer}, outside the views" for arc in left)
     sheet.tell_counted(tell, "left out", counts)
     within = [arc for arc in kept if not any(arc is it for it in left)]
-    return Found(path, read_sheet, marks, edges, within, placed, arguments, found, flanks, *chamfers.choices(views, oblique))
+    return Found(path, read_sheet, marks, edges, within, placed, arguments, round_ones, *chamfers.choices(views, oblique))
 
 
 def not_taken(cause: str | None) -> str:
@@ -201,8 +209,7 @@ def not_taken(cause: str | None) -> str:
     return NO_CONE + (NO_CORNER.format(cause) if cause else "")
 
 
-def cones_in(placed: Placed, edges: Sequence[Edge], its: Sequence[Round], tolerance: float) -> tuple[list[Cone], dict[Edge, tuple[Edge, ...]]]:
-    """The cones of a sheet, and what their oblique edges become."""
+def cones_in(placed: Placed, edges: Sequence[Edge], its: Sequence[Round], tolerance: float) -> Cones:
     panels: dict[str, cones.Panel] = {}
     places: dict[tuple[str, Edge], list[Edge]] = defaultdict(list)
     for view, group in placed.views.items():
@@ -214,7 +221,9 @@ def cones_in(placed: Placed, edges: Sequence[Edge], its: Sequence[Round], tolera
         panels[view] = cones.Panel((box[2] - box[0], box[3] - box[1]), [edge for at, edge in places if at == view], circles)
     found = cones.cones_of(panels, tolerance)
     flanks = list(cones.flanks_of(panels, found, tolerance))
-    return found, {edge: it.steps(edge) for it in flanks for edge in places[it.view, it.edge]}
+    across, seams = ([Frame(placed.views[it.view], 1.0, placed.mirrored).on_sheet(it) for it in some(panels, found, tolerance)]
+                     for some in (cones.across_ends, cones.seams_of))
+    return Cones(found, {edge: it.steps(edge) for it in flanks for edge in places[it.view, it.edge]}, across, seams)
 
 
 # ---- one reading
@@ -248,7 +257,8 @@ def squared(found: Found, reading: Reading, corners: Sequence[chamfers.Squared])
     """The lines that a reading leaves, and the sheet squared off, its oblique edges to some corners."""
     views = found.views(rounds.rounds_of(found.arcs, found.tolerance))
     lines = tangent.without(found.lines, reading.left, found.tolerance)
-    stepped = chamfers.squared_off([it for edge in lines for it in found.flanks.get(edge, (edge,))], corners, found.tolerance)
+    rest = tangent.without(lines, [(it, True) for it in found.cones.across], found.tolerance)
+    stepped = chamfers.squared_off([it for edge in rest for it in found.cones.flanks.get(edge, (edge,))], corners, found.tolerance)
     given_edges = [*stepped, *tangent.added(views, reading)]
     inner = [one.centre for view, one in views.rounds if (view, round(one.radius, 2)) in reading.inner]
     its = [one._replace(is_inner=len(one.numbers) == 1 and not one.cuts and one.centre in inner) for _, one in views.rounds]
@@ -282,6 +292,16 @@ class Frame(NamedTuple):
         x, y, right, _ = self.group.box
         return (right - place[0] if self.is_mirrored else place[0] - x) * self.times, (place[1] - y) * self.times
 
+    def on_sheet(self, it: Stretch) -> Stretch:
+        """A stretch from the view's least corner on, where it lies on the sheet; not enlarged."""
+        x, y, right, _ = self.group.box
+        across, along = (x, y) if it.is_upright else (y, x)
+        if self.is_mirrored and it.is_upright:
+            return it._replace(at=right - it.at, low=it.low + along, high=it.high + along)
+        if self.is_mirrored:
+            return it._replace(at=it.at + across, low=right - it.high, high=right - it.low)
+        return it._replace(at=it.at + across, low=it.low + along, high=it.high + along)
+
     def edge(self, edge: Edge) -> Edge:
         return edge._replace(start=self.place(edge.start), end=self.place(edge.end))
 
@@ -308,7 +328,7 @@ def given_by(
 ) -> Given:
     """What the drawing says of its sheet."""
     oblique = tuple(Frame(placed.views[it.one.view], times, placed.mirrored).chamfer(it) for it in corners)
-    result, noise = Given([], {}, {}, [], squares.doubts, [it.times(times) for it in found.cones], chamfers=oblique), OF_ONE * found.tolerance
+    result, noise = Given([], {}, {}, [], squares.doubts, [it.times(times) for it in found.cones.its], chamfers=oblique), OF_ONE * found.tolerance
     for view, group in placed.views.items():
         frame = Frame(group, times, placed.mirrored)
         for one in squares.rounds:
@@ -325,15 +345,15 @@ def given_by(
 def check_within(found: Found, placed: Placed) -> None:
     """Refuses a cone that reaches farther than all else of its view: without it the views are smaller."""
     for view, group in placed.views.items():
-        if found.cones and any(abs(a - b) > OF_ONE * found.tolerance for a, b in zip(group.box, found.placed.views[view].box)):
+        if found.cones.its and any(abs(a - b) > OF_ONE * found.tolerance for a, b in zip(group.box, found.placed.views[view].box)):
             raise Refused(f"in {view} the oblique edges of a cone reach farther than all other lines: recon reads level and upright edges alone, and "
                           "cones within them")
 
 
 def tell_cones(found: Found, tell: sheet.Tell) -> None:
     for view in VIEWS:
-        points = sum(it.end_radius == 0 for it in found.cones if it.view == view)
-        steps = sum(it.end_radius > 0 for it in found.cones if it.view == view)
+        points = sum(it.end_radius == 0 for it in found.cones.its if it.view == view)
+        steps = sum(it.end_radius > 0 for it in found.cones.its if it.view == view)
         if points:
             tell(f"left out: of {view} {many(points, 'place')} where a hole may end in a cone to a point, which is put back")
         if steps:
@@ -342,8 +362,8 @@ def tell_cones(found: Found, tell: sheet.Tell) -> None:
 
 def doubts_of_cones(found: Found) -> list[str]:
     """Where the edges of cones leave more choices than are tried."""
-    count = len(cones.covering(found.cones, found.cones))
-    return [f"{many(len(found.cones), 'place')} of cones in line may have them in more than {count} ways"] if count >= cones.MOST else []
+    count = len(cones.covering(found.cones.its, found.cones.its))
+    return [f"{many(len(found.cones.its), 'place')} of cones in line may have them in more than {count} ways"] if count >= cones.MOST else []
 
 
 def drawn(found: Found, reading: Reading, corners: Sequence[chamfers.Squared], number: tuple[int, int], tell: sheet.Tell) -> sheet.Drawn:
@@ -392,7 +412,7 @@ def drawings(found: Found) -> Iterator[sheet.Alike]:
     """The drawings of a sheet by its readings, the likeliest first, or why one has none."""
     views = found.views(rounds.rounds_of(found.arcs, found.tolerance))
     # Of a page no smooth edge is drawn.
-    its, count = tangent.readings([] if found.sheet.page else tangent.candidates(views), tangent.kinds_of(views.rounds))
+    its, count = tangent.readings([] if found.sheet.page else [*tangent.candidates(views), *found.cones.seams], tangent.kinds_of(views.rounds))
     only = found.arguments.reading
     ways = len(found.corners)
     if only is not None and not 1 <= only <= len(its) * ways:

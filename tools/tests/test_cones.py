@@ -25,6 +25,11 @@ def sunk_plate() -> Any:
     return box(0, 0, 0, 60, 40, 30).cut(sunk(2, (15, 12), 30, 0, 3, 6)).cut(sunk(1, (45, 15), 40, 0, 4, 7))
 
 
+def stepped_plate() -> Any:
+    """A hole of two diameters with a cone between."""
+    return box(0, 0, 0, 60, 40, 30).cut(cylinder(2, (15, 12), 0, 30, 3)).cut(drilled(2, (15, 12), 30, 20, 5))
+
+
 class Cones(test_rounds.InAFolder):
     def one(self, shape: Any, volume: str) -> None:
         asked = self.asked()
@@ -42,6 +47,29 @@ class Cones(test_rounds.InAFolder):
         # 9 * 27 + 16 * 37, and 3 * (36 + 18 + 9) / 3 + 3 * (49 + 28 + 16) / 3.
         self.one(sunk_plate(), "72,000 - 991 pi = 68,886.68 mm³")
         self.assertIn("changed: of TOP 1 cone between two circles squared off to a step", self.said)
+
+    def test_a_stepped_drill(self) -> None:
+        # A drill of 3 through, one of 5 down to 18, with a point of 118 degrees, and a taper between two diameters of a shaft.
+        shape = box(0, 0, 0, 60, 40, 30).cut(cylinder(2, (15, 12), 0, 30, 3)).cut(drilled(2, (15, 12), 30, 18, 5)).cut(cylinder(0, (28, 8), 40, 60, 4))
+        parts.sheet_of(shape, self.file)
+        asked = self.asked()
+        self.exact(shape, asked)
+        self.assertIn("changed: of TOP 1 cone between two circles squared off to a step", self.said)
+        shaft = cylinder(0, (20, 20), 0, 20, 10).fuse(cone(0, (20, 20), 20, 26, 10, 15)).fuse(cylinder(0, (20, 20), 26, 40, 15)).removeSplitter()
+        parts.sheet_of(shaft, self.file)
+        # 100 * 20 + 6 * (100 + 150 + 225) / 3 + 225 * 14.
+        self.one(shaft, "6,100 pi = 19,163.72 mm³")
+
+    def test_seams_of_cones(self) -> None:
+        # FreeCAD draws a seam of each cone, as TechDraw does: those that are drawn tell which holes have points.
+        shape = box(0, 0, 0, 60, 60, 20)
+        for plan in ((15, 15), (15, 45), (45, 15), (45, 45)):
+            shape = shape.cut(drilled(2, plan, 20, 12, 4))
+        parts.sheet_of(shape, self.file, groups=(0, 1, 2, 3, 5, 8))
+        asked = self.asked()
+        self.exact(shape, asked)
+        self.assertEqual([it.doubt for it in asked.kept], [""])
+        self.assertTrue(any("in TOP the level line at 15 from" in it and it.endswith("taken as a tangent edge") for it in self.said), self.said)
 
     def test_the_chamfered_ends_of_a_shaft(self) -> None:
         shape = cylinder(0, (20, 20), 2, 20, 10).fuse(cylinder(0, (20, 20), 20, 30, 15)).fuse(cone(0, (20, 20), 2, 0, 10, 8)).removeSplitter()
@@ -117,7 +145,7 @@ class Changes(test_rounds.InAFolder):
             self.assertRegex(self.cause, "it is oblique, .* and of cones those at the ends of whole circles")
 
     def test_another_angle(self) -> None:
-        for shape, low in ((drilled_plate(), 117), (drilled_plate(), 0), (sunk_plate(), 117), (sunk_plate(), 0)):
+        for shape, low in ((stepped_plate(), 117), (stepped_plate(), 0), (drilled_plate(), 117), (drilled_plate(), 0), (sunk_plate(), 117), (sunk_plate(), 0)):
             def more(space: Any, places: Any) -> None:
                 for line in self.oblique(space):
                     for end in ("start", "end"):
