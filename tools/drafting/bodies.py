@@ -6,11 +6,12 @@ import tempfile
 from collections.abc import Iterator, Sequence
 from typing import NamedTuple
 
+from . import holes
 from .answers import Solid
 from .cad import FreeCAD, Part, load
 from .cones import Fitted, volume_by_pi
 from .drawing import Place
-from .given import Squared
+from .given import Given, Hole, Squared
 from .messages import Refused
 from .rounded import Drawn, Layer, Strip, by_rounds, spot, volume_of
 from .rounds import Quarter, Slant
@@ -134,9 +135,21 @@ def cone_tools(it: Fitted) -> Iterator[Tool]:
     yield Tool(Part.makeCone(cone.radius, cone.end_radius, height, foot, way), it.is_full)
 
 
-def rounded_shape(solid: Solid, found: Sequence[Drawn], cones: Sequence[Fitted], unit: int, by_formula: bool) -> "Part.Shape":
+def put_back(shape: "Part.Shape", hole: Hole) -> "Part.Shape":
+    """The shape with what was taken off: a hole where it is full there, a boss where it is empty."""
+    foot, way = vector(hole.view, hole.centre, hole.low), vector(hole.view, (0, 0), 1)
+    cylinder = Part.makeCylinder(hole.radius, hole.high - hole.low, foot, way)
+    share = cylinder.common(shape).Volume / cylinder.Volume
+    if 1e-6 < share < 1 - 1e-6:
+        raise Refused("something else comes into a hole or boss that was taken off")
+    return applied(shape, Tool(cylinder, share < 0.5))
+
+
+def rounded_shape(
+    solid: Solid, found: Sequence[Drawn], cones: Sequence[Fitted], given: Given, unit: int, by_formula: bool
+) -> "Part.Shape":
     """The shape of a solid rounded back. Squares of whole circles become what is round them, the least ones first; then the cylinders are
-    added or cut, the greatest ones first; before, other corners are cut or filled, and in the end cones put back."""
+    added or cut, the greatest ones first; before, other corners are cut or filled, and in the end cones, holes and bosses put back."""
     shape, cylinders = shape_of(solid).scale(1 / unit), []
     wholes, corners = tools_of(found, unit, by_formula)
     for it in sorted(wholes, key=lambda whole: whole.radius):
@@ -148,8 +161,10 @@ def rounded_shape(solid: Solid, found: Sequence[Drawn], cones: Sequence[Fitted],
         cylinders.append(Tool(cylinder, it.is_full))
     for tool in [*corners, *reversed(cylinders), *(tool for cone in cones for tool in cone_tools(cone))]:
         shape = applied(shape, tool)
+    for hole in given.holes:
+        shape = put_back(shape, hole)
     plain, by_pi = volume_of(solid, found, unit)
-    volume = float(plain) + float(by_pi + volume_by_pi(cones, unit)) * math.pi
+    volume = float(plain) + float(by_pi + volume_by_pi(cones, unit) + holes.volume_by_pi(solid, found, given, unit)) * math.pi
     return checked(read_back(shape.removeSplitter()), volume if by_formula else None)
 
 

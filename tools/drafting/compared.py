@@ -222,6 +222,12 @@ def unexplained(given: Given, found: Sequence[Drawn], unit: int) -> Iterator[str
                 is_back = frame.right_back if stretch.is_upright else frame.up_back
                 place = given.extent(axis) - stretch.at if is_back else stretch.at
                 covered += [(layer.low / unit, layer.high / unit) for layer in it.layers if abs(centre - place) < near]
+        for hole in given.holes:
+            own = FRAMES[hole.view]
+            if hole.view != stretch.view and own.sight == along and axis in (own.right, own.up):
+                is_back = frame.right_back if stretch.is_upright else frame.up_back
+                place = given.extent(axis) - stretch.at if is_back else stretch.at
+                covered += [(hole.low, hole.high)] if abs(hole.centre[0 if axis == own.right else 1] - place) < near else []
         at, end = on_axis(given, stretch)
         for low, high in sorted(covered):
             at = max(at, high) if low <= at + near else at

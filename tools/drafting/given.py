@@ -8,6 +8,7 @@ lines and arcs of each view, with which they are compared. All are from a view's
     draft smooth FRONT upright solid 8 0 8  left out as a tangent edge or a seam: at, from, to
     draft cone TOP 40 25 3 4 0 2.2 sure     a centre, from a radius at a depth on to another, and whether nothing else can stand for it
     draft chamfer FRONT 8 12 20 30          the sharp corner of an oblique edge, and the one across from that
+    draft hole TOP 40 25 6 0 8              a hole or boss that was taken off: a centre, a radius, from a depth on to another
     draft doubt WORDS
 """
 import re
@@ -25,7 +26,7 @@ VIEW = "|".join((*VIEWS, *FURTHER))
 FORMS = {
     "round": rf"({VIEW}) # # # ([1-4]{{1,4}})( inner)?( cut)?", "arc": rf"({VIEW}) (solid|dashed) # # # # #",
     "line": rf"({VIEW}) (solid|dashed) # # # #", "smooth": rf"({VIEW}) (upright|level) (solid|dashed) # # #",
-    "cone": rf"({VIEW}) # # # # # #( sure)?", "reading": r"([1-9]\d{0,5}) of ([1-9]\d{0,5})", "chamfer": rf"({VIEW}) # # # #", "doubt": "(.*)",
+    "cone": rf"({VIEW}) # # # # # #( sure)?", "reading": r"([1-9]\d{0,5}) of ([1-9]\d{0,5})", "chamfer": rf"({VIEW}) # # # #", "hole": rf"({VIEW}) # # # # #", "doubt": "(.*)",
 }
 
 
@@ -104,10 +105,21 @@ class Cone(NamedTuple):
                              end_radius=self.end_radius * factor, end=self.end * factor)
 
 
+class Hole(NamedTuple):
+    """A hole or a boss that was taken off (`holes.py`): the view along its axis, its centre there and its radius, and from which depth along
+    the axis to which it goes."""
+
+    view: str
+    centre: Place
+    radius: float
+    low: float
+    high: float
+
+
 class Given(NamedTuple):
     """What a drawing's comments say: the rounds, the lines and arcs by their views, what was left out as smooth, where squaring off may be
     wrong, the cones, and which reading of the sheet it is, of how many: one of a greater number changes more than to leave lines out; and
-    the chamfers."""
+    the chamfers, and the holes and bosses that were taken off."""
 
     rounds: list[Squared]
     lines: dict[str, list[Edge]]
@@ -117,6 +129,7 @@ class Given(NamedTuple):
     cones: list[Cone]
     reading: tuple[int, int] = (1, 1)
     chamfers: tuple[Chamfer, ...] = ()
+    holes: tuple[Hole, ...] = ()
 
     @property
     def squared(self) -> list[Squared | Chamfer]:
@@ -126,13 +139,13 @@ class Given(NamedTuple):
     @property
     def kinds(self) -> str:
         """What was squared off, in words."""
-        return " and ".join([*(["rounds"] if self.rounds or not self.chamfers else []), *(["chamfers"] if self.chamfers else [])])
+        return " and ".join([*(["rounds"] if self.rounds or self.holes or not self.chamfers else []), *(["chamfers"] if self.chamfers else [])])
 
     @property
     def least(self) -> float:
         """The least radius, or side of a chamfer's corner."""
         sides = [abs(a - b) for it in self.chamfers for a, b in zip(it.slant.centre, it.slant.corner)]
-        return min([*(it.radius for it in self.rounds), *sides])
+        return min([*(it.radius for it in self.rounds), *(it.radius for it in self.holes), *sides])
 
     def extent(self, axis: int) -> float:
         """How far the part reaches along an axis of space."""
@@ -156,6 +169,7 @@ def times(given: Given, factor: int) -> Given:
         smooth=[it._replace(at=it.at * factor, low=it.low * factor, high=it.high * factor) for it in given.smooth],
         cones=[it.times(factor) for it in given.cones],
         chamfers=tuple(it._replace(slant=Slant(place(it.slant.centre), place(it.slant.corner))) for it in given.chamfers),
+        holes=tuple(Hole(it.view, place(it.centre), it.radius * factor, it.low * factor, it.high * factor) for it in given.holes),
     )
 
 
@@ -196,6 +210,7 @@ def rows_of(given: Given) -> Iterator[str]:
     for cone in given.cones:
         yield f"cone {cone.view} {plain(*cone.centre, *cone[2:6])}{' sure' if cone.is_sure else ''}"
     yield from (f"chamfer {it.view} {plain(*it.slant.corner, *it.slant.centre)}" for it in given.chamfers)
+    yield from (f"hole {it.view} {plain(*it.centre, *it[2:])}" for it in given.holes)
     yield from (f"doubt {text}" for text in given.doubts)
 
 
@@ -250,6 +265,13 @@ def chamfer_in(view: str, *told: str) -> Chamfer:
     return Chamfer(view, Slant((c, d), (a, b)))
 
 
+def hole_in(view: str, *told: str) -> Hole:
+    x, y, radius, low, high = map(float, told)
+    if radius <= 0 or low >= high:
+        raise Refused("a hole without a radius or a depth")
+    return Hole(view, (x, y), radius, low, high)
+
+
 def take_doubt(given: Given, text: str) -> None:
     given.doubts.append(text)
 
@@ -278,8 +300,10 @@ def given_in(lines: list[str]) -> Given | None:
             given = given._replace(reading=(int(told[1]), int(told[2])))
         elif word == "chamfer":
             given = given._replace(chamfers=(*given.chamfers, chamfer_in(*told.groups())))
+        elif word == "hole":
+            given = given._replace(holes=(*given.holes, hole_in(*told.groups())))
         else:
             TAKES[word](given, *told.groups())
-    return given if given.squared else None
+    return given if given.squared or given.holes else None
 
 

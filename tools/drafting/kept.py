@@ -6,6 +6,7 @@ from collections.abc import Sequence
 from fractions import Fraction
 from typing import Any, NamedTuple
 
+from . import holes
 from .answers import Answer, Solid
 from .cones import Fitted, choices, volume_by_pi
 from .given import Given
@@ -113,7 +114,7 @@ def rounded_back(number: int, solid: Solid, given: Given, unit: int, with_shapes
         why = why or ("" if every else "its holes and bosses don't have the places of all cones")
         for chosen in every:
             plain, by_pi = volume_of(solid, way, unit)
-            volume = (plain, by_pi + volume_by_pi(chosen, unit)) if by_formula else None
+            volume = (plain, by_pi + volume_by_pi(chosen, unit) + holes.volume_by_pi(solid, way, given, unit)) if by_formula else None
             try:
                 shape, doubt = shape_and_doubt(solid, Rounds(way, chosen, by_formula), given, unit, with_shapes) if with_shapes else (None, "")
                 some.append(Kept(number, solid, volume, shape, doubt))
@@ -128,7 +129,7 @@ def shape_and_doubt(solid: Solid, its: Rounds, given: Given, unit: int, with_sha
     if bare := list(itertools.islice(compared.unexplained(given, its.drawn, unit), 1)):
         raise Refused(bare[0])
     try:
-        shape = bodies.rounded_shape(solid, its.drawn, its.cones, unit, its.by_formula)
+        shape = bodies.rounded_shape(solid, its.drawn, its.cones, given, unit, its.by_formula)
         large = compared.enlarged(shape, given)
         differing = list(itertools.islice(compared.differences(*large), 1))
         other, lacking = compared.smooth_doubts(*large) if given.smooth and not differing else (0, 0)

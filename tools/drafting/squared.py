@@ -9,7 +9,7 @@ from collections.abc import Iterator, Mapping, Sequence
 from fractions import Fraction
 from typing import NamedTuple
 
-from . import chamfers, cones, given, noted, rounds, sheet, tangent
+from . import chamfers, cones, given, holes, noted, rounds, sheet, tangent
 from .cutting import Mark
 from .drawing import VIEWS, Place
 from .given import Cone, Given, Stretch
@@ -49,7 +49,7 @@ class Cones(NamedTuple):
 
 class Found(NamedTuple):
     """What is read of a sheet, and its cutting-plane lines: its lines, its arcs within the views, and where these are;
-    its cones, and the ways in which other oblique edges are squared to corners."""
+    its cones, the holes that are taken off, and the ways in which other oblique edges are squared to corners."""
 
     path: str | None
     sheet: Sheet
@@ -59,6 +59,7 @@ class Found(NamedTuple):
     placed: Placed
     arguments: argparse.Namespace
     cones: "Cones"
+    holes: Sequence[holes.Hole]
     corners: Sequence[tuple[chamfers.Squared, ...]] = ((),)
     has_all_corners: bool = True
 
@@ -202,7 +203,15 @@ def read(path: str | None, read_sheet: Sheet, marks: Sequence[Mark], arguments: 
     for note in noted.counted("left out", Counter(thing_of(arc.source, "outside the views") for arc in left)):
         tell(note)
     within = [arc for arc in kept if not any(arc is it for it in left)]
-    return Found(path, read_sheet, marks, edges, within, placed, arguments, round_ones, *chamfers.choices(views, oblique))
+    every = Found(path, read_sheet, marks, edges, within, placed, arguments, round_ones, ()).views(rounds.rounds_of(within, tolerance))
+    taken = [one for view, one in every.rounds if is_of_cone(view, one, placed, round_ones.its, tolerance)]
+    return Found(path, read_sheet, marks, edges, within, placed, arguments, round_ones, holes.holes_of(every, taken), *chamfers.choices(views, oblique))
+
+
+def is_of_cone(view: str, one: Round, placed: Placed, its: Sequence[Cone], tolerance: float) -> bool:
+    """Whether a circle is an end of a cone."""
+    centre = Frame(placed.views[view], 1.0, placed.mirrored).place(one.centre)
+    return any(it.view == view and math.dist(it.centre, centre) <= OF_ONE * tolerance for it in its)
 
 
 def not_taken(cause: str | None) -> str:
@@ -258,15 +267,18 @@ def squared(found: Found, reading: Reading, corners: Sequence[chamfers.Squared])
     """The lines that a reading leaves, and the sheet squared off, its oblique edges to some corners."""
     views = found.views(rounds.rounds_of(found.arcs, found.tolerance))
     lines = tangent.without(found.lines, reading.left, found.tolerance)
-    rest = tangent.without(lines, [(it, True) for it in found.cones.across], found.tolerance)
+    left = [*found.cones.across, *(stretch for it in found.holes for stretch in it.left)]
+    rest = tangent.without(lines, [(it, True) for it in left], found.tolerance)
     stepped = chamfers.squared_off([it for edge in rest for it in found.cones.flanks.get(edge, (edge,))], corners, found.tolerance)
     given_edges = [*stepped, *tangent.added(views, reading)]
     inner = [one.centre for view, one in views.rounds if (view, round(one.radius, 2)) in reading.inner]
-    its = [one._replace(is_inner=len(one.numbers) == 1 and not one.cuts and one.centre in inner) for _, one in views.rounds]
+    its = [one._replace(is_inner=len(one.numbers) == 1 and not one.cuts and one.centre in inner) for _, one in views.rounds
+           if not any(it.one == one for it in found.holes)]
     squares = rounds.Squaring(given_edges, its, found.tolerance, reading.is_eager).done()
     if cut := [it for it in squares.moves if it.one.cuts or reading.is_eager]:
         squares = rounds.Squaring(remapped(given_edges, cut, found), its, found.tolerance, reading.is_eager).done()
     squares.doubts.extend(chamfers.doubts_of(corners, [it for it in lines if is_straight(it, OF_ONE * found.tolerance)], its, found.tolerance))
+    squares.doubts.extend(f"a {it.one} may end where another line goes across" for it in found.holes if it.is_open)
     squares.doubts.extend([] if found.has_all_corners else [f"its oblique edges may be squared off in more than {chamfers.MOST} ways"])
     return lines, squares
 
@@ -315,6 +327,9 @@ class Frame(NamedTuple):
                          for it in one.quarters)
         return given.Squared(view, self.place(one.centre), one.radius * self.times, quarters, bool(one.cuts))
 
+    def hole(self, it: holes.Hole) -> given.Hole:
+        return given.Hole(it.view, self.place(it.one.centre), it.one.radius * self.times, it.low * self.times, it.high * self.times)
+
     def chamfer(self, it: chamfers.Squared) -> given.Chamfer:
         return given.Chamfer(it.one.view, rounds.Slant(self.place(it.slant.centre), self.place(it.slant.corner)))
 
@@ -329,7 +344,8 @@ def given_by(
 ) -> Given:
     """What the drawing says of its sheet."""
     oblique = tuple(Frame(placed.views[it.one.view], times, placed.mirrored).chamfer(it) for it in corners)
-    result, noise = Given([], {}, {}, [], squares.doubts, [it.times(times) for it in found.cones.its], chamfers=oblique), OF_ONE * found.tolerance
+    result, noise = Given([], {}, {}, [], squares.doubts, [it.times(times) for it in found.cones.its], chamfers=oblique, holes=tuple(
+        Frame(placed.views[it.view], times, placed.mirrored).hole(it) for it in found.holes)), OF_ONE * found.tolerance
     for view, group in placed.views.items():
         frame = Frame(group, times, placed.mirrored)
         for one in squares.rounds:
@@ -397,6 +413,8 @@ def drawn(found: Found, reading: Reading, corners: Sequence[chamfers.Squared], n
 
 
 def tell_squares(told: Given, tell: Tell) -> None:
+    for view, count in Counter(it.view for it in told.holes).items():
+        tell(noted.left_out(f"of {view} {many(count, 'hole or boss', 'holes or bosses')} whose squares would meet others, which are put back", count, view))
     for view in dict.fromkeys(it.view for it in told.squared):
         circles = [it for it in told.rounds if it.view == view]
         if circles:

@@ -225,7 +225,9 @@ class Refusals(InAFolder):
         self.refused(box(0, 0, 0, 50, 40, 10), "3,001 circles and arcs, more than 3,000", more)
 
     def test_what_has_no_solid_says_what_differs(self) -> None:
-        shape = box(0, 0, 0, 50, 40, 10).cut(cylinder(2, (20, 15), 0, 10, 6)).cut(cylinder(2, (29, 24), 0, 10, 6))
+        shape = box(0, 0, 0, 50, 40, 10)
+        for plan in ((20, 15), (29, 24)):
+            shape = shape.cut(cylinder(2, plan, 4, 10, 6)).cut(cylinder(2, plan, 0, 10, 2))
         parts.sheet_of(shape, self.file)
         asked = self.asked()
         assert asked.rounds
