@@ -173,7 +173,7 @@ def placed(shape: Any, page: Page) -> Any:
 
 def saved(page: Page, notes: Sequence[Note], folder: str) -> str:
     """Keeps a page in a folder, and answers the file that stands for it."""
-    save(page.part, str(pathlib.Path(folder, PART)))
+    save(page.part, str(pathlib.Path(folder, PART)), "mm")
     text = {"label": page.label, "views": page.views, "frame": [tuple(it) for it in page.frame], "outer": page.outer.toMatrix().A,
             "notes": list(map(dataclasses.asdict, notes))}
     path = pathlib.Path(folder, TAKEN)

@@ -7,6 +7,7 @@ its own Python runs `draft`. Tried with FreeCAD 0.20.2, OpenCASCADE 7.6.3 and Py
 import pathlib
 import sys
 
+from .drawing import MILLIMETRES
 from .messages import Refused
 
 # Where FreeCAD's packages put its modules.
@@ -46,8 +47,11 @@ def load(path: str) -> Part.Shape:
     return shape
 
 
-def save(shape: Part.Shape, path: str) -> None:
-    """Writes the shape as STEP or BREP, as the path ends."""
+def save(shape: Part.Shape, path: str, unit: str) -> None:
+    """Writes the shape, whose lengths are in a unit that a drawing tells, as STEP or BREP, as the path ends. Lengths in the file are
+    millimetres, as those of STEP are told to be and FreeCAD takes those of BREP; where a drawing tells no unit they stay as they are."""
+    if unit not in ("", "mm"):
+        shape = shape.scaled(float(MILLIMETRES[unit]))
     write = shape.exportStep if pathlib.Path(path).suffix.lower() in STEP else shape.exportBrep
     try:
         write(path)

@@ -114,7 +114,7 @@ def as_step(solid: Chosen, path: str) -> None:
     from .solids import shape_of
     grid, full = solid.cells()
     shape = shape_of(Solid(solid.choice, grid.volume(full), list(squares_of(grid, full)))).removeSplitter()
-    save(shape.scale(float(1 / solid.asked.per_unit())) if solid.asked.per_unit() != 1 else shape, path)
+    save(shape.scale(float(1 / solid.asked.per_unit())) if solid.asked.per_unit() != 1 else shape, path, solid.asked.origin.unit)
 
 
 FORMS: dict[str, Callable[[Chosen, str], None]] = {".stl": as_stl, ".dxf": as_dxf, ".step": as_step}

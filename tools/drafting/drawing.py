@@ -33,6 +33,9 @@ Stroke = tuple[bool, tuple[int, int], tuple[int, int]]
 
 # The units of DXF's $INSUNITS that drawings of parts have, as they are written behind a length.
 UNITS = {1: "in", 2: "ft", 4: "mm", 5: "cm", 6: "m", 8: "µin", 9: "mil", 10: "yd", 13: "µm", 14: "dm"}
+# One of each in millimetres.
+MILLIMETRES = {"mm": Fraction(1), "cm": Fraction(10), "dm": Fraction(100), "m": Fraction(1000), "µm": Fraction("0.001"),
+               "in": Fraction("25.4"), "ft": Fraction("304.8"), "yd": Fraction("914.4"), "mil": Fraction("0.0254"), "µin": Fraction("0.0000254")}
 
 
 class Line(NamedTuple):

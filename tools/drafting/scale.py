@@ -14,7 +14,7 @@ from typing import Any, NamedTuple
 
 from . import noted
 from .cutting import Word, words_of
-from .drawing import Place
+from .drawing import MILLIMETRES, Place
 from .messages import Refused, many, option
 from .groups import Group
 from .noted import Tell
@@ -32,8 +32,7 @@ BESIDE, HALFWAY = 2.5, 0.1
 NAMED = 6
 # Scales of ISO 5455, and some that are seen beside them: one dimension alone that says another ratio was written over.
 USUAL = {Fraction(it) for it in (1, 2, 3, 4, 5, 10, 15, 20, 25, 30, 40, 50, 75, 100, 200, 250, 500, 1000)} | {Fraction(5, 2)}
-# Units in millimetres. Parts in the one are often dimensioned in the other.
-MILLIMETRES = {"mm": Fraction(1), "cm": Fraction(10), "m": Fraction(1000), "in": Fraction("25.4"), "ft": Fraction("304.8")}
+# How units are written in dimensions. Parts in the one are often dimensioned in the other.
 MARKS = {'"': "in", "''": "in", "″": "in", "in": "in", "inch": "in", "mm": "mm", "cm": "cm", "m": "m", "ft": "ft"}
 
 CODES = (("%%c", "⌀"), ("%%C", "⌀"), ("%%d", "°"), ("%%D", "°"), ("%%p", "±"), ("%%P", "±"), ("\\P", " "), ("\u00a0", " "))

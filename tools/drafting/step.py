@@ -1,6 +1,6 @@
-"""Makes each solid that recon lists for a drawing or a sheet from its faces, and saves it in the drawing's unit: of SHAPE.step the
-first as SHAPE_1.step, the second as SHAPE_2.step, and so on; as BREP where the name ends in .brep. It writes for each solid the file,
-the volume, and how many parts and voids it has. Nothing is saved, and the status is 1, where the drawing has a fault or some solid
+"""Makes each solid that recon lists for a drawing or a sheet from its faces, and saves it in millimetres: of SHAPE.step the first as
+SHAPE_1.step, the second as SHAPE_2.step, and so on; as BREP where the name ends in .brep. A drawing that tells no unit is taken to be
+in millimetres, which is told. It writes for each solid the file, the volume in the drawing's unit, and how many parts and voids it has. Nothing is saved, and the status is 1, where the drawing has a fault or some solid
 isn't closed or hasn't the volume that is told. Of a sheet with rounds those solids are saved that are kept once they are rounded back.
 
 Parts that touch along an edge or at a corner alone are kept apart, each closed, which triangles can't tell.
@@ -12,7 +12,7 @@ from typing import Any, NamedTuple
 
 from . import asking, faults, program
 from .answers import FAULT, Answer, Solid, answer_of, text_of, turned_back
-from .drawing import Origin, lines_of, origin_of, views_of
+from .drawing import MILLIMETRES, Origin, lines_of, origin_of, views_of
 from .given import given_in
 from .kept import Kept
 from .messages import Refused, many, say, write_result
@@ -47,8 +47,17 @@ def warn_ambiguous(count: int, answer: Answer, sheet: Sheet) -> None:
             + (" (draft settle --meant K says how)" if told_apart else ""))
 
 
-def given_shapes(arguments: argparse.Namespace) -> tuple[str, dict[int, Solid], Fraction]:
-    """The first line of an answer that is given, its solids, and how many of its units one of the drawing's has."""
+class Shapes(NamedTuple):
+    """The first line of an answer, the shapes that are saved of it by their numbers, how many solids it has, and the drawing's unit."""
+
+    head: str
+    shapes: dict[int, Shape]
+    count: int
+    unit: str
+
+
+def given_shapes(arguments: argparse.Namespace) -> Shapes:
+    """The shapes of an answer that is given."""
     lines = lines_of(arguments.drawing)
     answer, origin = answer_of(text_of(arguments.answer)), origin_of(lines)
     answer = turned_back(answer) if origin.mirrored else answer
@@ -57,7 +66,8 @@ def given_shapes(arguments: argparse.Namespace) -> tuple[str, dict[int, Solid], 
     if given_in(lines):
         raise Refused("the drawing is squared off: its solids are rounded back where the answer isn't given")
     warn_ambiguous(len(answer.solids), answer, sheet_of(views_of(lines), answer.decimals))
-    return answer.head, dict(enumerate(answer.solids, 1)), origin.times * 10**answer.decimals
+    solids = dict(enumerate(answer.solids, 1))
+    return Shapes(answer.head, plain_shapes(solids, origin.times * 10**answer.decimals, arguments.only), len(solids), origin.unit)
 
 
 def asked_of(arguments: argparse.Namespace) -> asking.Asked:
@@ -117,35 +127,35 @@ def plain_shapes(solids: dict[int, Solid], per_unit: Fraction, only: int | None)
     return shapes
 
 
-def shapes_of(arguments: argparse.Namespace) -> tuple[str, dict[int, Shape], int]:
-    """The first line of the answer, the shapes that are saved, and how many solids there are."""
-    if arguments.answer:
-        head, solids, per_unit = given_shapes(arguments)
-        return head, plain_shapes(solids, per_unit, arguments.only), len(solids)
+def shapes_of(arguments: argparse.Namespace) -> Shapes:
+    """The shapes of the solids that the program lists."""
     asked = asked_of(arguments)
-    head = asked.run.text.partition("\n")[0]
+    unit = asked.origin.unit
     if asked.rounds:
         shapes = rounded_shapes(asked)
-        return f"{many(len(shapes), 'solid')} {asked.rounds.made}", shapes, len(shapes)
+        return Shapes(f"{many(len(shapes), 'solid')} {asked.rounds.made}", shapes, len(shapes), unit)
     answer = asked.answer()
     warn_ambiguous(len(answer.solids), answer, asked.sheet())
     solids = dict(enumerate(answer.solids, 1))
-    return head, plain_shapes(solids, asked.per_unit(), arguments.only), len(solids)
+    return Shapes(asked.run.text.partition("\n")[0], plain_shapes(solids, asked.per_unit(), arguments.only), len(solids), unit)
 
 
 def run(arguments: argparse.Namespace) -> int:
     from .cad import is_shape_file, save
     if not is_shape_file(arguments.shape):
         raise Refused(f"{arguments.shape} ends neither in .step nor in .brep")
-    head, shapes, count = shapes_of(arguments)
-    if arguments.only is not None and arguments.only not in shapes:
-        raise Refused(f"there is no solid {arguments.only}: {many(count, 'solid')} of this drawing")
-    rows = [head]
+    made = given_shapes(arguments) if arguments.answer else shapes_of(arguments)
+    if arguments.only is not None and arguments.only not in made.shapes:
+        raise Refused(f"there is no solid {arguments.only}: {many(made.count, 'solid')} of this drawing")
+    if made.unit != "mm":
+        say("draft step: " + (f"lengths in the files are millimetres, {float(MILLIMETRES[made.unit]):.9g} to the {made.unit}" if made.unit else
+                              "no unit of length is told: millimetres are taken"))
+    rows = [made.head]
     path = pathlib.Path(arguments.shape)
-    for number, one in shapes.items():
+    for number, one in made.shapes.items():
         if arguments.only in (None, number):
             file = str(path.with_name(f"{path.stem}_{number}{path.suffix}"))
-            save(one.shape, file)
+            save(one.shape, file, made.unit)
             parts = len(one.shape.Solids)
             rows.append(f"{file} volume {one.volume} parts {parts} voids {len(one.shape.Shells) - parts}")
     write_result("".join(f"{row}\n" for row in rows), None)

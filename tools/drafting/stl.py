@@ -101,6 +101,8 @@ def of_recon(asked: asking.Asked, number: int, arguments: argparse.Namespace) ->
 
 def run(arguments: argparse.Namespace) -> int:
     asked = clean.redrawn(arguments, lambda note: say(f"draft stl: {note}"))
+    if asked.origin.unit not in ("", "mm"):
+        say(f"draft stl: warning: lengths are in {asked.origin.unit}, and an STL file tells no unit: printers take millimetres")
     if asked.rounds:
         from .meshes import SIDES
         text = of_rounds(asked, arguments.solid)

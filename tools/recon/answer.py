@@ -112,12 +112,12 @@ class Solid:
         write_result(self._stl(), str(path))
 
     def write_step(self, path: str | pathlib.Path) -> None:
-        """Saves it by FreeCAD as STEP, or as BREP where the path ends in .brep."""
+        """Saves it by FreeCAD as STEP, or as BREP where the path ends in .brep, in millimetres; in the drawing's unit where it tells none."""
         with raised_as(NotThere):
             from drafting.cad import is_shape_file, save
             if not is_shape_file(str(path)):
                 raise OptionError(f"{path} ends neither in .step nor in .brep")
-            save(self.to_shape(), str(path))
+            save(self.to_shape(), str(path), self._answer.unit or "")
 
 
 class Answer:

@@ -82,6 +82,16 @@ class Shapes(unittest.TestCase):
             self.assertEqual(back.status, 0, back.said)
             self.assertEqual(solved(back.out.encode(), 3), (EXAMPLES / "fractions_in_thousandths.txt").read_text())
 
+    def test_files_are_in_millimetres(self) -> None:
+        with tempfile.TemporaryDirectory() as folder:
+            ended = draft("step", EXAMPLES / "sheets" / "clevis_sheet.dxf", f"{folder}/clevis.step")
+            self.assertIn("lengths in the files are millimetres, 25.4 to the in\n", ended.said)
+            self.assertEqual(ended.out.splitlines()[1], f"{folder}/clevis_1.step volume 41 parts 1 voids 0")
+            back = draft("views", "--decimals", 1, f"{folder}/clevis_1.step")
+            self.assertEqual(back.status, 0, back.said)
+            box = re.findall(r"volume \d+", solved(back.out.encode(), 1))
+            self.assertEqual(box, [f"volume {41 * 254**3}"])
+
     def test_parts_that_touch_along_an_edge_are_kept_apart(self) -> None:
         with tempfile.TemporaryDirectory() as folder:
             ended = draft("step", EXAMPLES / "two_cubes_along_an_edge.dxf", f"{folder}/two.brep")
@@ -91,7 +101,7 @@ class Shapes(unittest.TestCase):
         with tempfile.TemporaryDirectory() as folder:
             text = (EXAMPLES / "clevis.txt").read_bytes()
             ended = draft("step", EXAMPLES / "clevis.dxf", f"{folder}/clevis.step", "--answer", "-", data=text)
-            self.assertEqual((ended.status, ended.said), (0, ""))
+            self.assertEqual((ended.status, ended.said), (0, "draft step: no unit of length is told: millimetres are taken\n"))
             self.assertTrue(pathlib.Path(folder, "clevis_1.step").exists())
 
     def test_a_drawing_of_boxes(self) -> None:

@@ -16,9 +16,6 @@ from typing import TYPE_CHECKING, Any
 if TYPE_CHECKING:
     from drafting.asking import Asked
 
-# In millimetres, the units that drawings may have beside those that `draft` compares sizes in.
-FURTHER_UNITS = {"dm": Fraction(100), "yd": Fraction("914.4"), "mil": Fraction("0.0254"), "µm": Fraction("0.001"), "µin": Fraction("0.0000254")}
-
 
 def tell(**event: object) -> None:
     print(json.dumps(event), flush=True)
@@ -80,10 +77,10 @@ class Asking:
 
     def millimetres(self, asked: "Asked") -> float:
         """How many millimetres a unit of the drawing has; where it tells none, one."""
-        from drafting.scale import MILLIMETRES
+        from drafting.drawing import MILLIMETRES
         if not asked.origin.unit:
             tell(told="found: no unit of length is told: millimetres are taken")
-        return float({**MILLIMETRES, **FURTHER_UNITS}.get(asked.origin.unit, Fraction(1)))
+        return float(MILLIMETRES.get(asked.origin.unit, Fraction(1)))
 
     def shapes(self, asked: "Asked") -> Iterator[dict[str, Any]]:
         """The shapes of all solids where they stand, and of a page what each has more and less than the part."""
