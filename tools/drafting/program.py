@@ -71,7 +71,8 @@ def is_program(path: str | pathlib.Path) -> bool:
 def ways() -> str:
     """How to come by the program."""
     others = "apt install ./recon_VERSION_ARCH.deb, its package; or name one that is elsewhere by --program or RECON"
-    return f"{BUILD}; or {others}" if (TOP / "crates" / "recon").is_dir() else others
+    unproved = "docs/WALK.md, at its end, has one answer unproved, in minutes"
+    return f"{BUILD}; or {others}; {unproved}" if (TOP / "crates" / "recon").is_dir() else others
 
 
 def run(program: pathlib.Path, words: list[object], data: bytes, seconds: float = SECONDS) -> Run:
