@@ -1,7 +1,8 @@
 """What a refusal advises: of options only those that were tried, and by which the sheet gets further."""
 from collections.abc import Callable, Iterator, Mapping, Sequence
 
-from .messages import Refused, option
+from .controls import option
+from .messages import Refused
 from .reading import Source
 from .styles import Style, choice_of
 
@@ -33,7 +34,7 @@ class InTheWay(Advisable):
         kept = [it for it in (edges if self.kept is None else self.kept) if it not in self.sources]
         ways = (its for its in ways_out(self.sources) if not any(meets(it, kept) for it in its) and gets_further({"leave_out": its}))
         way = next(ways, None)
-        return Refused(f"{self}{self.advice} {' '.join(option('leave-out', it) for it in way)}" if way else str(self))
+        return Refused(f"{self}{self.advice} {option('leave-out', *way)}" if way else str(self))
 
 
 class Styleless(Advisable):

@@ -7,6 +7,7 @@ from typing import NamedTuple
 
 from . import kept, program, sheet
 from .answers import WHOLE, answer_of
+from .controls import option
 from .drawing import lines_within
 from .given import Given, given_in
 from .kept import Outcome
@@ -80,9 +81,9 @@ class Readings(NamedTuple):
         if number > self.among:
             rows.append("None of them gives a solid that is kept: here also ends of lines were moved, or fillets squared off to their centres.")
         elif self.tried < self.among and self.seconds is not None:
-            rows.append(f"No more were tried in {self.seconds:g} seconds (--reading-seconds): other solids may have the sheet in the others.")
+            rows.append(f"No more were tried in {self.seconds:g} seconds ({option('reading-seconds')}): other solids may have the sheet in the others.")
         elif self.tried < self.among and self.kept:
-            rows.append(f"This is number {number}; other solids may have the sheet in the others (of a sheet --all-readings tries them).")
+            rows.append(f"This is number {number}; other solids may have the sheet in the others (of a sheet {option('all-readings')} tries them).")
         elif self.tried < self.among:
             rows.append("It keeps no solid; the sheet itself, in place of this drawing of it, is read in the others too.")
         elif self.kept:

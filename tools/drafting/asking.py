@@ -9,10 +9,11 @@ from typing import NamedTuple
 from . import answering, documents, faults, files, noted, program, sheet, trials
 from .answering import Readings
 from .answers import Answer, answer_of, turned_back
+from .controls import option
 from .drawing import Origin, decimals_of, entries_of, lines_of, lines_within, missing_in, origin_of, passed_over, views_of
 from .given import given_in
 from .kept import Kept
-from .messages import Refused, Usage, option
+from .messages import Refused, Usage
 from .noted import Note, Tell
 from .pairs import TwoReadings
 from .panels import Sheet, sheet_of
@@ -162,7 +163,7 @@ def ask(path: str | None, arguments: argparse.Namespace, tell: Tell, command: tu
     for note in passed_over_told(lines):
         tell(note)
     if not fault:
-        tell(noted.found(f"recon reads the file as it is, with --decimals {decimals}"))
+        tell(noted.found(f"recon reads the file as it is, with {option('decimals', str(decimals))}"))
         if missing := missing_in(views_of(lines)):
             tell(noted.found(f"two views, without {missing}"))
     rounds = answering.of_drawing(sheet.Drawn(data.decode(), decimals, origin_of(lines)), given, ask_all(arguments)) if given and not fault else None
@@ -198,7 +199,7 @@ def limits_of(arguments: argparse.Namespace) -> list[object]:
 def way_out(cut: re.Match[str]) -> str:
     """What to do where a search was cut."""
     limit, most = int(cut[2]), {"nodes": program.MOST_NODES, "solids": program.MOST_SOLIDS}[cut[1]]
-    return f"raise it by --{cut[1]}, to {most:,} at most" if limit < most else "draw what tells the solids apart, or less of the part"
+    return f"raise it by {option(cut[1])}, to {most:,} at most" if limit < most else "draw what tells the solids apart, or less of the part"
 
 
 def views_words(lines: list[str]) -> list[object]:

@@ -5,6 +5,7 @@ line, from what the program writes. recon writes the three main views; further o
 import argparse
 
 from . import asking, faults, program
+from .controls import option
 from .drawing import Stroke, lines_within, places_of, strokes_in, views_of, written
 from .messages import Refused, many, say, write_result
 from .noted import Tell
@@ -32,7 +33,7 @@ def redrawn(arguments: argparse.Namespace, say_it: Tell) -> asking.Asked:
     if asked.run.status == program.NO_SUCH_SOLID:
         raise Refused(f"there is no solid {arguments.solid}: {many(int(head.split()[-1]), 'solid')} of this drawing")
     if asked.run.status != program.WHOLE:
-        raise Refused(f"the search was cut, {head}: raise the limit by --{head.split()[1]}")
+        raise Refused(f"the search was cut, {head}: raise the limit by {option(head.split()[1])}")
     return asked
 
 
@@ -57,6 +58,6 @@ def run(arguments: argparse.Namespace) -> int:
     if asked.rounds:
         raise Refused("a sheet with rounds or chamfers isn't drawn anew: `draft sheet` writes it squared off")
     strokes = with_further(asked)
-    say(f"draft clean: {many(sum(map(len, strokes.values())), 'line')}, read with --decimals {asked.decimals}")
+    say(f"draft clean: {many(sum(map(len, strokes.values())), 'line')}, read with {option('decimals', str(asked.decimals))}")
     write_result(written(strokes, asked.decimals, asked.origin), arguments.output)
     return 0

@@ -1,27 +1,40 @@
-"""Words for the page of `draft serve`, where what a command calls an option is a control that has a name of its own."""
-import re
-from typing import Any
+"""Options and commands as whoever reads of them has them: in a shell in its own words, on the page of `draft serve` and in FreeCAD's panel by the
+names of the controls there. Where a process tells what it tells is said in its environment when it begins: so each text is right as it is made."""
+import os
+import shlex
 
-# The page's names of the options that it has, as viewer/table.html shows them.
-NAMES = {
-    "hidden": "Hidden lines", "visible": "Visible lines", "leave-out": "Leave out", "scale": "Scale", "angle": "Angle", "solids": "Most solids",
-    "nodes": "Most nodes", "tolerance": "Noise", "decimals": "Decimals", "sheet-decimals": "Decimals of the sheet",
-    "all-visible": "no line is hidden", "as-drawn": "lengths are as drawn", "as-is": "as it is, not as a sheet", "visible-only": "The same sheet without hidden lines",
+# The variable that says where: `page`, `panel`, or, where there is none, a shell.
+VARIABLE = "DRAFT_TOLD_ON"
+AS_IS = "as it is, not as a sheet"
+# The controls that each place has for options, by the names that viewer/table.html and FreeCAD's panel show.
+CONTROLS = {
+    "page": {
+        "hidden": "Hidden lines", "visible": "Visible lines", "leave-out": "Leave out", "scale": "Scale", "angle": "Angle", "solids": "Most solids",
+        "nodes": "Most nodes", "tolerance": "Noise", "decimals": "Decimals", "sheet-decimals": "Decimals of the sheet",
+        "all-visible": "no line is hidden", "as-drawn": "lengths are as drawn", "as-is": AS_IS,
+        "visible-only": "The same sheet without hidden lines",
+    },
+    "panel": {"part": "Views of .."},
 }
-OPTION = re.compile(r"(?<![\w-])--([a-z]+(?:-[a-z]+)*)")
-SHEET = "`draft sheet`"
+# What each place does by itself, and a shell by a command.
+COMMANDS = {"page": {"sheet": f"this page, with “{AS_IS}” off,"}}
+WHERE = os.environ.get(VARIABLE, "")
 
 
-def in_words(text: str) -> str:
-    """A text with the names of controls in place of options; an option that the page lacks is told to be one of the command."""
-    def name(match: re.Match[str]) -> str:
-        return f"“{NAMES[match[1]]}”" if match[1] in NAMES else f"the command's option {match[0]}"
+def option(name: str, *values: str) -> str:
+    """An option with its values; what has no control is said to be the command line's."""
+    if name in CONTROLS.get(WHERE, {}):
+        return " ".join([f"“{CONTROLS[WHERE][name]}”", *filter(None, ["; ".join(values)])])
+    words = " ".join(f"--{name} {shlex.quote(value)}" for value in values) or f"--{name}"
+    return f"the command line's {words}" if WHERE in CONTROLS else words
 
-    return OPTION.sub(name, text.replace(SHEET, f"this page, with “{NAMES['as-is']}” off,"))
+
+def without(name: str) -> str:
+    """That an option isn't to be said."""
+    return f"leave {option(name)} empty" if name in CONTROLS.get(WHERE, {}) else f"leave out {option(name)}"
 
 
-def named(event: dict[str, Any]) -> dict[str, Any]:
-    """An event with its words for people so; what a drawing or a picture holds stays."""
-    if event["kind"] not in ("said", "end"):
-        return event
-    return {key: in_words(told) if key in ("text", "html") else told for key, told in event.items()}
+def command(name: str, *options: str) -> str:
+    """A command of `draft`, with options of it."""
+    words = " ".join(["draft", name, *(f"--{it}" for it in options)])
+    return COMMANDS.get(WHERE, {}).get(name) or f"{'the command ' if WHERE in CONTROLS else ''}`{words}`"

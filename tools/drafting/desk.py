@@ -12,7 +12,7 @@ import threading
 import time
 from typing import Any
 
-from . import controls, itself, shown
+from . import itself, shown
 from .messages import Refused, many
 from .turns import Limits, Running, Turn, Turns
 
@@ -255,7 +255,7 @@ class Desk:
             running.end()
             job.running.remove(running)
         is_right = TOLD_ALL.search(running.said.read_text(errors="replace")) if running.said.exists() else None
-        return "" if is_right or running.is_stopped or job.has_ended else controls.in_words(running.complaint())
+        return "" if is_right or running.is_stopped or job.has_ended else running.complaint()
 
     def made(self, job: Job, words: list[str]) -> bytes:
         """What a command over a job's drawing writes to standard output."""
@@ -271,7 +271,7 @@ class Desk:
                 running.end()
                 job.running.remove(running)
             if running.process.wait():
-                raise Unfit(422, controls.in_words(running.complaint()))
+                raise Unfit(422, running.complaint())
             return out
         finally:
             turn.leave()

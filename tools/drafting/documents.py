@@ -5,6 +5,7 @@ import pathlib
 import zipfile
 from typing import Any, NamedTuple
 
+from .controls import option
 from .messages import Refused, Usage
 from .reading import MOST_BYTES
 
@@ -75,8 +76,8 @@ def check_file(path: str) -> None:
 def check_options(arguments: argparse.Namespace, is_page: bool) -> None:
     """Refuses options of sheets with a page, and of pages with a sheet."""
     if is_page and (said := next((name for name in SAID if getattr(arguments, name, None)), None)):
-        raise Usage(f"--{said.replace('_', '-')} is of DXF sheets: a page of FreeCAD tells its views, their lines and lengths by itself")
+        raise Usage(f"{option(said.replace('_', '-'))} is of DXF sheets: a page of FreeCAD tells its views, their lines and lengths by itself")
     if is_page and getattr(arguments, "as_is", False):
-        raise Usage("--as-is is of DXF files, and a document of FreeCAD is none")
+        raise Usage(f"{option('as-is')} is of DXF files, and a document of FreeCAD is none")
     if not is_page and (said := next((name for name in ("sheet_page", "part") if getattr(arguments, name, None)), None)):
-        raise Usage(f"--{said.replace('_', '-')} is of documents of FreeCAD, and this is none")
+        raise Usage(f"{option(said.replace('_', '-'))} is of documents of FreeCAD, and this is none")

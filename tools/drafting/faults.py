@@ -3,28 +3,31 @@ import re
 from collections import Counter
 
 from .answers import FAULT
+from .controls import command, option
 from .drawing import DRAWN, FURTHER, MEANT, VIEWS, Entry, entries_of
 from .placing import view_named
 from .reading import Source
 
+# What reads a file as a sheet.
+SHEET = command("sheet")
 # Of each fault what is wrong, and what to do.
 WORDS = {
-    "Binary": ("the file is binary DXF", "save it as ASCII DXF, or let `draft sheet` read it"),
+    "Binary": ("the file is binary DXF", f"save it as ASCII DXF, or let {SHEET} read it"),
     "BadCode": ("here stands no group code, where one has to stand", "the file is broken: export it again"),
     "NoValue": ("a group code has no value", "the file is cut: export it again"),
     "NoEof": ("the file ends without an end", "the file is cut: export it again"),
     "BadSection": ("a pair stands where none may", "the file is broken: export it again"),
     "BadNumber": ("a coordinate is no number", "the file is broken: export it again"),
-    "NotWhole": ("a coordinate has more decimals than are read", "read it with more --decimals, or let `draft sheet` find them"),
-    "TooFar": ("a coordinate is beyond 1,000,000,000", "move the drawing nearer to the origin, or read it with fewer --decimals"),
+    "NotWhole": ("a coordinate has more decimals than are read", f"read it with more {option('decimals')}, or let {SHEET} find them"),
+    "TooFar": ("a coordinate is beyond 1,000,000,000", f"move the drawing nearer to the origin, or read it with fewer {option('decimals')}"),
     "Missing": ("a coordinate is missing", "the file is broken: export it again"),
     "Repeated": ("a coordinate stands there twice", "the file is broken: export it again"),
     "Oblique": ("a line is neither level nor upright", "draw it level or upright; oblique edges aren't read"),
-    "Linetype": ("a linetype tells no style", "make it CONTINUOUS, HIDDEN or CENTER, or let `draft sheet` read it, with --hidden linetype=NAME"),
-    "Geometry": ("here is geometry that gives no lines", "draw it by lines, or let `draft sheet` take blocks and polylines apart"),
-    "EmptyView": ("a view has no line", "draw it on the layer of its name, or let `draft sheet` find the views"),
-    "TooManyLines": ("there are more than 100,000 lines", "let `draft sheet` join them"),
-    "TooLong": ("the file has more than 16,777,216 bytes", "let `draft sheet` write it anew"),
+    "Linetype": ("a linetype tells no style", f"make it CONTINUOUS, HIDDEN or CENTER, or let {SHEET} read it, with {option('hidden', 'linetype=NAME')}"),
+    "Geometry": ("here is geometry that gives no lines", f"draw it by lines, or let {SHEET} take blocks and polylines apart"),
+    "EmptyView": ("a view has no line", f"draw it on the layer of its name, or let {SHEET} find the views"),
+    "TooManyLines": ("there are more than 100,000 lines", f"let {SHEET} join them"),
+    "TooLong": ("the file has more than 16,777,216 bytes", f"let {SHEET} write it anew"),
     "TooFine": ("an axis has more than 64 different coordinates", "leave out details, or draw parts of it by themselves"),
     "TooManyBlocks": ("the drawing has more than 4,096 blocks", "leave out details, or draw parts of it by themselves"),
     "Curved": ("a side of a polyline is bent", "draw it by straight lines; curves aren't read"),

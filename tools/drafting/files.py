@@ -8,6 +8,7 @@ from collections import Counter
 from collections.abc import Iterator, Mapping, Sequence
 from typing import Any
 
+from .controls import option, without
 from .drawing import FURTHER, VIEWS
 from .messages import Refused, Usage
 from .placing import main_named
@@ -18,6 +19,7 @@ from .styles import Choice
 INPUTS = ("drawing", "sheet", "visible_only", *(view.lower() for view in (*VIEWS, *FURTHER)))
 VISIBLE = ".visible"
 STANDARD_INPUT = "standard input"
+MAIN_OPTIONS = f"{option('front')}, {option('top')} and {option('side')}"
 
 
 def add_options(parser: argparse.ArgumentParser) -> None:
@@ -33,13 +35,13 @@ def files_of(arguments: argparse.Namespace, path: str | None) -> dict[str, str]:
     named = {view: getattr(arguments, view.lower(), None) for view in (*VIEWS, *FURTHER)}
     files = {view: str(file) for view, file in named.items() if file}
     if not files and path is None:
-        raise Usage("a drawing is needed, or a file for each view: --front, --top and --side")
+        raise Usage(f"a drawing is needed, or a file for each view: {MAIN_OPTIONS}")
     if files and path is not None:
-        raise Usage(f"{pathlib.Path(path).name} is a sheet, and --{next(iter(files)).lower()} says that each view has a file of its own")
+        raise Usage(f"{pathlib.Path(path).name} is a sheet, and {option(next(iter(files)).lower())} says that each view has a file of its own")
     if files and len(main_named(files)) < 2:
-        raise Usage("of views in files of their own --front, --top and --side (or --left) are needed, or two of these")
+        raise Usage(f"of views in files of their own {MAIN_OPTIONS} (or {option('left')}) are needed, or two of these")
     if files and (arguments.visible_only or arguments.pairs):
-        raise Usage("--visible-only is of one sheet, and each view has a file of its own")
+        raise Usage(f"{option('visible-only')} is of one sheet, and each view has a file of its own")
     return files
 
 
@@ -50,7 +52,7 @@ def visible_only(arguments: argparse.Namespace, path: str | None) -> str:
     whole = pathlib.Path(str(path))
     file = whole.with_name(f"{whole.stem}{VISIBLE}{whole.suffix}")
     if not file.exists():
-        raise Refused(f"{file.name} isn't there, {whole.name} without its hidden lines: export it, or leave out --pairs")
+        raise Refused(f"{file.name} isn't there, {whole.name} without its hidden lines: export it, or {without('pairs')}")
     return str(file)
 
 

@@ -4,7 +4,6 @@ told by their blocks, page by page, while the program still searches; then how i
 the views, or what would settle it, where several have them.
 
 With --attended standard input is whoever asked: a line `stop` ends the search, and what is found is told; its end ends everything.
-Words are then for a page, whose controls they name in place of options.
 """
 import argparse
 import itertools
@@ -19,7 +18,7 @@ import threading
 from collections.abc import Callable, Iterator
 from typing import IO, Any
 
-from . import asking, blocks, controls, faults, left_open, noted, program, settle, shown, why
+from . import asking, blocks, faults, left_open, noted, program, settle, shown, why
 from .answering import Readings
 from .answers import CUT, FAULT, WHOLE
 from .blocks import Blocks
@@ -364,7 +363,7 @@ def run(arguments: argparse.Namespace) -> int:
         with lock:
             if event["kind"] == "end":
                 ended.append(event["how"])
-            sys.stdout.write(json.dumps(controls.named(event) if arguments.attended else event, separators=(",", ":")) + "\n")
+            sys.stdout.write(json.dumps(event, separators=(",", ":")) + "\n")
             sys.stdout.flush()
 
     search = Search()

@@ -18,6 +18,7 @@ from . import asking, blocks, solver
 from .answers import CUT, FAULT, Answer, answer_of, text_of
 from .blocks import Blocks
 from .cells import Grid as Cells, grid_round
+from .controls import option
 from .drawing import decimals_of, lines_within, views_of
 from .given import given_in
 from .messages import Progress, Refused, many, say, write_result
@@ -129,7 +130,7 @@ def found_solids(drawing: Drawing, most: int, seconds: float) -> set[Solid]:
     if not found.done:
         raise Refused(f"clingo wasn't done within {seconds:g} seconds: nothing is judged")
     if len(found.models) > most:
-        raise Refused(f"there are more than {most:,} solids: nothing is judged (--most)")
+        raise Refused(f"there are more than {most:,} solids: nothing is judged ({option('most')})")
     solids = {
         frozenset((int(told[1]), int(told[2]), int(told[3])) for atom in atoms if (told := FULL.fullmatch(atom)))
         for atoms, _ in found.models

@@ -3,6 +3,7 @@ looks for a second solid that has what it shows, for some seconds, as `visible.p
 import argparse
 
 from . import asking
+from .controls import command
 from .messages import Refused
 from .panels import BLANK, DASHED, Grid, grid_of
 from .visible import some_solids
@@ -37,5 +38,5 @@ def told(asked: asking.Asked, arguments: argparse.Namespace) -> list[str]:
     except Refused as refusal:
         return [first, f"What the page leaves open as it is isn't known: {refusal}"]
     if count > 1:
-        return [first, f"As it is the page leaves open which solid is meant: at least {count} have what it shows (draft solve --visible-edges-alone)."]
+        return [first, f"As it is the page leaves open which solid is meant: at least {count} have what it shows ({command('solve', 'visible-edges-alone')})."]
     return [first, f"No second solid was found that has what the page shows as it is, by clingo in {SEARCH:g} seconds; that there is none isn't proved."]

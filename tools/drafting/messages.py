@@ -1,7 +1,6 @@
 """Words to people: refusals, what is said on standard error, progress where one waits, and results that are whole or not there."""
 import os
 import pathlib
-import shlex
 import signal
 import sys
 import tempfile
@@ -30,11 +29,6 @@ def on_stop(handler: Callable[[int, FrameType | None], Any]) -> None:
     signal.signal(signal.SIGTERM, handler)
     if signal.getsignal(signal.SIGHUP) is not signal.SIG_IGN:
         signal.signal(signal.SIGHUP, handler)
-
-
-def option(name: str, value: str = "") -> str:
-    """An option as the user says it."""
-    return f"--{name} {shlex.quote(value)}" if value else f"--{name}"
 
 
 def many(count: int, one: str, more: str | None = None) -> str:

@@ -22,6 +22,7 @@ from collections.abc import Iterator
 from . import answering, asking, blocks, follow, program, reading, sheet, shown
 from .answers import CUT, FAULT, Answer, answer_of, text_of
 from .blocks import Blocks
+from .controls import option
 from .drawing import decimals_of, lines_within, missing_in, origin_of, views_of
 from .follow import Event, Events
 from .given import given_in
@@ -203,7 +204,7 @@ def add_arguments(parser: argparse.ArgumentParser) -> None:
 
 def run(arguments: argparse.Namespace) -> int:
     if arguments.blocks and not arguments.answer:
-        raise Refused("--blocks goes with an answer")
+        raise Refused(f"{option('blocks')} goes with an answer")
     if arguments.tiles < 1:
         raise Refused("not even one solid at a time")
     name = arguments.name or pathlib.Path(arguments.drawing).name

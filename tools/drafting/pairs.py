@@ -9,8 +9,9 @@ from collections.abc import Sequence
 
 from . import noted
 from .advice import InTheWay
+from .controls import option
 from .groups import NEARLY_AS_LARGE, Group, has_extent, holds, title_blocks
-from .messages import Refused, option
+from .messages import Refused
 from .placing import (
     Hints, Placed, Standing, Way, by_places as three_by_places, beside, in_line, is_mirrored, numbers_told, standing, stretches_of, view_named,
     ways_of, why_no_view, with_a_side, without_told,

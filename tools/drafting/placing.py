@@ -8,9 +8,10 @@ from typing import NamedTuple
 
 from . import noted
 from .advice import InTheWay
+from .controls import option
 from .drawing import FURTHER, VIEWS
 from .groups import MOST_GROUPS, Group, frames, group_of, has_extent, holds, merged, pieces_of, title_blocks, united
-from .messages import Refused, many, option
+from .messages import Refused, many
 from .noted import Note, Thing
 from .panels import FRAMES
 from .reading import Box, Edge, Source, Unread

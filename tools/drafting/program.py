@@ -8,6 +8,7 @@ import subprocess
 import time
 from typing import NamedTuple
 
+from .controls import option
 from .messages import Refused
 
 TOP = pathlib.Path(__file__).resolve().parent.parent.parent
@@ -53,7 +54,7 @@ def add_arguments(parser: argparse.ArgumentParser) -> None:
 
 def find(named: str | None = None) -> pathlib.Path:
     """The program: the one that is named, else the one that RECON names, else where the gate leaves it, else the one on the path."""
-    for path, who in ((named, "--program"), (os.environ.get("RECON"), "RECON")):
+    for path, who in ((named, option("program")), (os.environ.get("RECON"), "RECON")):
         if path and not is_program(path):
             raise NoProgram(f"{path}, which {who} names, is no program that may be run")
         if path:
@@ -70,7 +71,7 @@ def is_program(path: str | pathlib.Path) -> bool:
 
 def ways() -> str:
     """How to come by the program."""
-    others = "apt install ./recon_VERSION_ARCH.deb, its package; or name one that is elsewhere by --program or RECON"
+    others = f"apt install ./recon_VERSION_ARCH.deb, its package; or name one that is elsewhere by {option('program')} or RECON"
     unproved = "docs/WALK.md, at its end, has one answer unproved, in minutes"
     return f"{BUILD}; or {others}; {unproved}" if (TOP / "crates" / "recon").is_dir() else others
 

@@ -9,6 +9,7 @@ import pathlib
 
 from . import asking, faults, noted, program
 from .answers import CUT
+from .controls import option
 from .drawing import further_in, lines_within, strokes_in, up_to_end, written
 from .given import comments as given_comments, given_in, times
 from .messages import Refused, many, say, write_result
@@ -58,7 +59,7 @@ def run(arguments: argparse.Namespace) -> int:
     if arguments.drawn:
         write_result(data, arguments.drawn)
     elif data != pathlib.Path(arguments.drawing).read_bytes():
-        say("draft prove: the log is of a drawing that --drawing would write, and that `draft check` makes of this file again")
+        say(f"draft prove: the log is of a drawing that {option('drawing')} would write, and that `draft check` makes of this file again")
     write_result(made.text, arguments.output)
     say(f"draft prove: a log of {many(len(lines), 'line')}, which lists {many(int(lines[-1].split()[-1]), 'solid')}")
     return program.WHOLE

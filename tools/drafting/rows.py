@@ -7,6 +7,7 @@ import os
 import pathlib
 from typing import Any
 
+from .controls import option
 from .messages import Refused, say
 
 Row = dict[str, Any]
@@ -31,7 +32,7 @@ class Rows:
             state.mkdir(parents=True, exist_ok=True)
             self.file = open(state / "rows", "a+b", buffering=0)
         except OSError as failure:
-            raise Refused(f"rows can't be kept in {state} ({failure.strerror}): name another folder by --state") from None
+            raise Refused(f"rows can't be kept in {state} ({failure.strerror}): name another folder by {option('state')}") from None
         try:
             fcntl.flock(self.file, fcntl.LOCK_EX | fcntl.LOCK_NB)
         except BlockingIOError:

@@ -13,9 +13,10 @@ from fractions import Fraction
 from typing import Any, NamedTuple
 
 from . import noted
+from .controls import option, without
 from .cutting import Word, words_of
 from .drawing import MILLIMETRES, Place
-from .messages import Refused, many, option
+from .messages import Refused, many
 from .groups import Group
 from .noted import Tell
 from .reading import Arrow, Box, Kept, Sheet, Source
@@ -342,7 +343,7 @@ def refusal(dimensions: Sequence[Dimension], used: Agreed, best: Agreed, scale: 
         return (f"{off_told(used.off, dimensions)} another length than {spanned(len(used.off))}, so that the size of the part isn't told: words "
                 f"were written over, or lines moved without them. Draw them right, or say {option('as-drawn')}:{named(used.off, where)}")
     taken = f"taken by {option('scale', scale_told(scale.times))}" if scale.is_said else "drawn"
-    way = f"say {option('scale', scale_told(best.ratio))}" if best.ratio != 1 else f"leave out {option('scale')}"
+    way = f"say {option('scale', scale_told(best.ratio))}" if best.ratio != 1 else without('scale')
     times = float(best.ratio / scale.times)
     text = f"{says(len(agree))} {times:.6g} times the lengths as {taken}, so that the part would come out in a wrong size"
     if best.off:

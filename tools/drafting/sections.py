@@ -10,8 +10,9 @@ from collections import Counter, defaultdict
 from collections.abc import Iterator, Sequence
 from typing import NamedTuple
 
+from .controls import option
 from .cutting import Mark, Word, corners_of, distance, is_head, words_of
-from .messages import Refused, option
+from .messages import Refused
 from .groups import Group, holds
 from .reading import Box, Kept, Sheet, Source, box_of
 from .straight import Run
@@ -109,7 +110,7 @@ class Sections(NamedTuple):
             return
         letter = lost[0].letter
         number = min(range(len(groups)), key=lambda it: distance(groups[it].box, lost[0].word.place))
-        way = f", or leave it out by {option('leave-out', 'group=')}NUMBER" if len(groups) > FEWEST_VIEWS else ""
+        way = f", or leave it out by {option('leave-out', 'group=NUMBER')}" if len(groups) > FEWEST_VIEWS else ""
         raise Refused(f"a cutting-plane line {letter}-{letter} is drawn at group {number + 1}, {groups[number]}, and which group is its section "
                       f"isn't told, by a hatch or a label {letter}-{letter}: label it{way}")
 

@@ -22,6 +22,7 @@ from . import asking, blocks, faults, program
 from .answers import CUT, FAULT, WHOLE, Answer, Face, Solid, answer_of, have_views, text_of
 from .blocks import Blocks
 from .cells import Grid as Cells, grid_round
+from .controls import command, option
 from .drawing import FURTHER, VIEWS, lines_within, number, pairs_of, views_of
 from .given import given_in
 from .groups import meet
@@ -293,8 +294,8 @@ def case_of(arguments: argparse.Namespace) -> Case:
         asked = asking.ask(arguments.drawing, arguments, lambda note: say(f"draft settle: {note}"))
         case = of_asked(asked)
         if asked.rounds and asked.rounds.elsewhere:
-            raise Refused(f"the {many(len(asked.kept), 'solid')} of this sheet are kept in several readings of it, which views don't tell apart: draft "
-                          "solve tells them, and --reading N those of one")
+            raise Refused(f"the {many(len(asked.kept), 'solid')} of this sheet are kept in several readings of it, which views don't tell apart: "
+                          f"{command('solve')} tells them, and with {option('reading', 'N')} those of one")
         if asked.origin.mirrored and not asked.paper:
             say("draft settle: warning: the sheet shows the part in a mirror, and what is told here is of the mirror image, x turned round")
         if asked.rounds:
@@ -321,7 +322,7 @@ def third_told(solids: Solids, third: Means, sheet: Sheet, most: int) -> list[st
     for key, its in list(groups.items())[:most]:
         rows += [f"of {'solid' if len(its) == 1 else 'solids'} {', '.join(map(str, its))} also"]
         rows += stretches_told(shown[key] - every, sheet, wide[-1] - wide[0])
-    return rows + ([f"({len(groups) - most} other such views: --all)"] if len(groups) > most else [])
+    return rows + ([f"({len(groups) - most} other such views: {option('all')})"] if len(groups) > most else [])
 
 
 def stretches_told(shown: Shown, sheet: Sheet, wide: int) -> list[str]:
@@ -430,7 +431,7 @@ def as_json(rows: list[str], text: str, left: int) -> str:
 
 def run(arguments: argparse.Namespace) -> int:
     if arguments.meant is None and (arguments.json or arguments.by):
-        raise Refused("--json and --by go with --meant")
+        raise Refused(f"{option('json')} and {option('by')} go with {option('meant')}")
     case = case_of(arguments)
     answer = case.answer
     if len(answer.solids) < 2:
@@ -442,7 +443,7 @@ def run(arguments: argparse.Namespace) -> int:
     shown = sections if arguments.all else sections[:SHOWN]
     rows = [f"{have_views(len(answer.solids), ''.join(map(sheet.name, sheet.missing)))}.", *table(best_first([*views, *shown]), sheet)]
     if len(shown) < len(sections):
-        rows.append(f"({len(sections) - len(shown)} further sections: --all)")
+        rows.append(f"({len(sections) - len(shown)} further sections: {option('all')})")
     added: list[Added] = []
     if arguments.meant is None:
         rows += third_told(solids, views[0], sheet, len(answer.solids) if arguments.all else SHOWN) if sheet.missing else []

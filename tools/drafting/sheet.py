@@ -18,11 +18,12 @@ from typing import Any, NamedTuple
 
 from . import documents, files, noted, pairs, scale
 from .advice import Advisable
+from .controls import command, option, without
 from .cutting import Mark, marks_of, without_marks
 from .dimensions import without_dimensions
 from .drawing import VIEWS, Origin, Stroke, places_of, written
 from .groups import Group
-from .messages import Refused, many, option, say, write_result
+from .messages import Refused, many, say, write_result
 from .noted import Note, Tell
 from .paper import Paper
 from .placing import Hints, Placed, by_names, extents_of, main_named, named_views, numbers_of, view_named
@@ -233,12 +234,12 @@ def check_styles(placed: Placed, arguments: argparse.Namespace, tell: Tell) -> N
     layers = sorted({run.edge.source.layer for run in runs})
     if len(colours) > 1:
         raise Refused(f"no line is hidden by its linetype or layer, and the views have lines of colours {', '.join(map(str, colours))}: say "
-                      f"which are hidden by {option('hidden', 'color=')}NUMBER, or {option('all-visible')}")
+                      f"which are hidden by {option('hidden', 'color=NUMBER')}, or {option('all-visible')}")
     if any(layer.startswith("ProjItem") for layer in layers):
         raise Refused("a page of FreeCAD's TechDraw, which tells no linetypes: export it a second time with hidden lines off and name that "
                       f"by {option('visible-only')}, or say {option('all-visible')}")
     tell(noted.warning(f"no line is hidden, on the layers {', '.join(layers)}; where some are, say which by {option('hidden')}; where they "
-                       "aren't drawn, `draft solve --visible-edges-alone` lists some solids that have the visible ones"))
+                       f"aren't drawn, {command('solve', 'visible-edges-alone')} lists some solids that have the visible ones"))
 
 
 # ---- what is written
@@ -359,7 +360,7 @@ def unfit(path: str | None, ats: Sequence[At], times: Fraction, arguments: argpa
     if wider:
         way = f"say {option('tolerance', wider)} where this is noise"
     if decimals is not None and measure_of(lengths, times, None, tolerance):
-        way = f"leave out {option('sheet-decimals')}"
+        way = without('sheet-decimals')
     return Refused(f"in {odd.view} {odd.told(lambda source: where(source, path))} is {odd.length:.9g} from the view's least {odd.axis}, which doesn't "
                    f"fit {kinds}: {way}")
 
@@ -451,7 +452,7 @@ def drawn_views(
     origin = Origin(sheet.unit, measure.times / times, placed.mirrored)
     lines = sum(map(len, views.values()))
     hidden = sum(one[0] for strokes in views.values() for one in strokes)
-    tell(noted.drawn(f"{many(lines, 'line')}, {hidden} of them hidden; recon reads it with --decimals {measure.decimals}", lines))
+    tell(noted.drawn(f"{many(lines, 'line')}, {hidden} of them hidden; recon reads it with {option('decimals', str(measure.decimals))}", lines))
     begins = {view: least_of(its) for view, its in views.items()}
     units = 10**measure.decimals
     paper = Paper(placed.views, begins, measure.times * units, origin.times * units, placed.mirrored, arguments.tolerance,

@@ -15,6 +15,7 @@ import json
 from . import asking, faults, files, left_open, program, records, visible
 from .answering import Answered, Readings
 from .answers import CUT, FAULT, have_views, sizes_of
+from .controls import command, option
 from .messages import Refused, Usage, many, say, write_result
 from .noted import Note
 
@@ -93,7 +94,7 @@ def rounded_told(asked: asking.Asked, rounds: Readings, listed: int) -> list[str
 def run(arguments: argparse.Namespace) -> int:
     if arguments.visible_edges_alone:
         if arguments.json:
-            raise Usage("--visible-edges-alone lists some solids, and --json all")
+            raise Usage(f"{option('visible-edges-alone')} lists some solids, and {option('json')} all")
         return visible.run(arguments, LISTED if arguments.list is None else max(0, arguments.list))
     notes: list[Note] = []
 
@@ -136,9 +137,9 @@ def answered(asked: asking.Asked, arguments: argparse.Namespace, listed: int) ->
         write_result("".join(f"{row}\n" for row in rows), None)
     count = records.count_of(asked)
     if asked.missing and count > 1:
-        say(f"draft solve: warning: the two views are ambiguous: {asked.missing} isn't drawn, and one solid alone is the part; `draft settle` says "
-            f"what {asked.missing} would show of each, and with --meant K completes the drawing")
+        say(f"draft solve: warning: the two views are ambiguous: {asked.missing} isn't drawn, and one solid alone is the part; {command('settle')} says "
+            f"what {asked.missing} would show of each, and with {option('meant', 'K')} completes the drawing")
     if asked.run.status == program.WHOLE and arguments.expect not in (None, count):
-        say(f"draft solve: not as expected: {many(count, 'solid')}, and {arguments.expect} by --expect")
+        say(f"draft solve: not as expected: {many(count, 'solid')}, and {arguments.expect} by {option('expect')}")
         return UNEXPECTED
     return asked.run.status

@@ -12,6 +12,7 @@ from typing import Any, NamedTuple
 
 from . import asking, faults, program
 from .answers import FAULT, Answer, Solid, answer_of, text_of, turned_back
+from .controls import command, option
 from .drawing import MILLIMETRES, Origin, lines_of, origin_of, views_of
 from .given import given_in
 from .kept import Kept
@@ -44,7 +45,7 @@ def warn_ambiguous(count: int, answer: Answer, sheet: Sheet) -> None:
         told_apart = len({it.choice for it in answer.solids}) == count
         way = settled_by(answer, sheet) if told_apart else "squared off it doesn't tell them apart"
         say(f"draft step: warning: the drawing is ambiguous: {many(count, 'solid')} have its views, and one alone is the part; {way}"
-            + (" (draft settle --meant K says how)" if told_apart else ""))
+            + (f" ({command('settle', 'meant K')} says how)" if told_apart else ""))
 
 
 class Shapes(NamedTuple):
@@ -77,7 +78,7 @@ def asked_of(arguments: argparse.Namespace) -> asking.Asked:
     if FAULT.fullmatch(head):
         raise Refused("; ".join(faults.told(head, asked.lines)))
     if asked.run.status != program.WHOLE:
-        raise Refused(f"the search was cut, {head}: raise the limit, or have a cut answer saved by --answer")
+        raise Refused(f"the search was cut, {head}: raise the limit, or have a cut answer saved by {option('answer')}")
     return asked
 
 

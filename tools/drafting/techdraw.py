@@ -13,6 +13,7 @@ from typing import Any, NamedTuple
 
 from . import noted
 from .cad import FreeCAD, Part
+from .controls import option
 from .documents import Page, View, check_file
 from .drawing import FURTHER, VIEWS
 from .messages import Refused, many
@@ -79,7 +80,7 @@ def page_of(doc: Any, named: str | None) -> Any:
     if not every:
         raise Refused("there is no page of TechDraw in the document")
     if named is None:
-        raise Refused(f"there are {len(every)} pages in the document: name one of {labels} by --sheet-page")
+        raise Refused(f"there are {len(every)} pages in the document: name one of {labels} by {option('sheet-page')}")
     raise Refused(f"{'no page' if not pages else 'more than one page'} is called {named}: there {'is' if len(every) == 1 else 'are'} {labels}")
 
 
@@ -121,7 +122,7 @@ def views_of_part(page: Any, named: str | None, tell: Tell) -> list[Any]:
     told = {key: f"{many(len(views), 'view')} of {labels_of(sources_of(views[0]))}" for key, views in parts.items()}
     seen = f"page {page.Label} has {'; '.join(told.values()) or 'no view of a part'}"
     if len(fit) > 1:
-        raise SeveralParts(f"{seen}: which part is meant has to be said (--part)", [labels_of(sources_of(parts[key][0])) for key in fit])
+        raise SeveralParts(f"{seen}: which part is meant has to be said, by {option('part')}", [labels_of(sources_of(parts[key][0])) for key in fit])
     if not fit:
         raise Refused(f"{seen}: {'two views of one part are needed, or three' if named is None else f'none of a part called {named}'}")
     for key in parts.keys() - fit:

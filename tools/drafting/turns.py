@@ -10,6 +10,7 @@ import threading
 from collections.abc import Iterator
 from typing import NamedTuple
 
+from . import controls
 from .messages import Refused
 
 # How many may wait for a turn, and after how many seconds without a word one is looked after.
@@ -102,7 +103,7 @@ class Running:
         with open(self.said, "wb") as said:
             self.process = subprocess.Popen(
                 [*limits.words(turn.slot), *words], stdin=subprocess.PIPE, stdout=subprocess.PIPE, stderr=said, cwd=folder, bufsize=0,
-                start_new_session=True, env={**os.environ, "TMPDIR": str(folder)},
+                start_new_session=True, env={**os.environ, "TMPDIR": str(folder), controls.VARIABLE: "page"},
             )
         self.timer = threading.Timer(limits.seconds, self.late)
         self.timer.daemon = True

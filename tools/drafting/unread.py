@@ -3,9 +3,10 @@ from collections import Counter
 from collections.abc import Callable, Collection, Sequence
 
 from .advice import Advisable, InTheWay, Noisy, Styleless
+from .controls import option
 from .drawing import VIEWS, Place
 from .groups import Group, meet
-from .messages import Refused, option
+from .messages import Refused
 from .noted import Things
 from .placing import Placed, main_named
 from .reading import Box, Edge, Unread, thing_of, where

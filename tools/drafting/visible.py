@@ -10,6 +10,7 @@ from typing import NamedTuple
 
 from . import asking, faults, judge, program, solver, trials
 from .answers import FAULT
+from .controls import option
 from .given import given_in
 from .messages import Refused, Usage, many, say, write_result
 from .panels import DASHED, SOLID, STYLES, Cell, Grid, Panels, Row, Sheet, grid_of, panels_of, runs_of
@@ -110,17 +111,17 @@ def told(solids: list[Found], is_done: bool, grid: Grid, asked: asking.Asked, ar
 
 def run(arguments: argparse.Namespace, listed: int) -> int:
     if arguments.answer or arguments.expect is not None:
-        raise Usage("--answer and --expect are of what recon lists, and --visible-edges-alone asks clingo")
+        raise Usage(f"{option('answer')} and {option('expect')} are of what recon lists, and {option('visible-edges-alone')} asks clingo")
     least = argparse.Namespace(**{**vars(arguments), "nodes": 1, "solids": 1})
     asked = asking.ask(arguments.drawing, least, lambda note: say(f"draft solve: {note}"))
     head = asked.run.text.partition("\n")[0]
     if FAULT.fullmatch(head):
         raise Refused("; ".join(faults.told(head, asked.lines)))
     if given_in(asked.lines):
-        raise Refused("the sheet has circles or arcs: --visible-edges-alone is of drawings without them")
+        raise Refused(f"the sheet has circles or arcs: {option('visible-edges-alone')} is of drawings without them")
     grid = grid_of(asked.sheet())
     if hidden := sum(style == DASHED for styles in grid.panels.values() for style, *_ in runs_of(styles)):
-        raise Usage(f"{many(hidden, 'hidden line')} of the drawing: --visible-edges-alone is of drawings without them")
+        raise Usage(f"{many(hidden, 'hidden line')} of the drawing: {option('visible-edges-alone')} is of drawings without them")
     solids, is_done = some_solids(grid, max(1, arguments.most), arguments.search)
     write_result("".join(f"{row}\n" for row in told(solids, is_done, grid, asked, arguments, listed)), None)
     return UNPROVED

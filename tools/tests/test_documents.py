@@ -248,7 +248,7 @@ def elliptic() -> Any:
 REFUSED: dict[str, tuple[Make, str]] = {
     "no page": (lambda one: one.feature(corner()), "no page of TechDraw"),
     "two pages": (two_pages, "2 pages in the document: name one of First, Second by --sheet-page"),
-    "two parts": (two_parts, "3 views of Corner; 3 views of Block: which part is meant has to be said \\(--part\\)"),
+    "two parts": (two_parts, "3 views of Corner; 3 views of Block: which part is meant has to be said, by --part"),
     "a source that is gone": (without_its_source, "shows nothing: what it showed isn't in the document"),
     "perspective": (lambda one: in_a_group(one, corner(), Perspective=True), "is in perspective"),
     "front and rear alone": (lambda one: in_a_group(one, corner(), ("Rear",)), "views along two axes are needed.*Front, Rear show one"),

@@ -220,16 +220,19 @@ class Viewer(Opened):
         self.assertIn("“Hidden lines”", told)
 
     def test_controls_are_named(self) -> None:
-        """No option stands in a text, but the name of the control that has it."""
+        """No option stands in a text, but the name of the control that has it; and what is drawn may be called as one."""
         coloured = [rectangle("0", x, y, 3).replace("\n6\n", f"\n62\n{colour}\n6\n") for colour, (x, y) in enumerate(((0, 0), (0, 9), (9, 0)), 1)]
         self.drop_text("colours.dxf", self.dxf_of(*coloured))
         told = self.text(".told")
         self.assertIn("“Hidden lines” color=NUMBER, or “no line is hidden”", told)
         self.assertNotIn("--", told)
         form = self.text(".options") + str(self.value("document.querySelector('.options').textContent"))
-        for option, name in controls.NAMES.items():
+        for option, name in controls.CONTROLS["page"].items():
             self.assertIn(name, form, option)
-        self.assertEqual(controls.in_words("say --front"), "say the command's option --front")
+        for name in ("a", "--scale"):
+            self.drop_text(name, self.dxf_of(rectangle("--scale", 0, 0, 3, "ZIGZAG"), rectangle("0", 0, 9, 3), rectangle("0", 9, 0, 3)))
+            self.assertIn("in FRONT a LINE 100 on layer --scale has the linetype ZIGZAG, which tells no style: say “Visible lines”, “Hidden lines” "
+                          "or “Leave out” linetype=ZIGZAG.", self.text(".told"))
 
     def test_long_numbers_do_not_widen_the_page(self) -> None:
         self.drop_text("long.dxf", self.dxf_of(LINE.format("FRONT", "CONTINUOUS", "1" * 100_000, 0, 1, 0), rectangle("TOP", 0, 9, 3)))

@@ -35,6 +35,7 @@ class Child(QtCore.QObject):  # type: ignore[misc]
         around = QtCore.QProcessEnvironment.systemEnvironment()
         for name in ("PYTHONHOME", "PYTHONPATH"):
             around.remove(name)
+        around.insert(settings.TOLD_ON, "panel")
         self.process.setProcessEnvironment(around)
         words = [str(FOLDER / "asked.py"), settings.tools(), path, self.folder, *settings.program(), "--solids", str(settings.solids()), *words]
         self.process.start(settings.python(), list(words))

@@ -13,6 +13,8 @@ PREFERENCES = FreeCAD.ParamGet("User parameter:BaseApp/Preferences/Mod/Recon")
 # Where this addon stands in a copy of the repository, and where the package puts the modules and the program.
 BESIDE, PACKAGED = FOLDER.parent.parent.parent, pathlib.Path("/usr/lib/python3/dist-packages")
 SOLIDS = 50
+# What says to the modules of `draft` where is shown what they tell.
+TOLD_ON = "DRAFT_TOLD_ON"
 
 
 class Lacking(Exception):
@@ -51,7 +53,8 @@ def solids() -> int:
 
 
 def with_tools() -> None:
-    """Has this process find the modules of `draft`."""
+    """Has this process find the modules of `draft`, which tell by the controls of the panel."""
+    os.environ[TOLD_ON] = "panel"
     folder = tools()
     if folder not in sys.path:
         sys.path.append(folder)
