@@ -14,7 +14,7 @@ from typing import Any
 
 from . import itself, shown
 from .messages import Refused, many
-from .turns import Limits, Running, Turn, Turns
+from .turns import MAKE_WAY, Limits, Running, Turn, Turns
 
 # The most bytes of what is told of one drawing, of one piece of that, and the most drawings in open pages.
 MOST_TOLD, PIECE, MOST_JOBS = 256 << 20, 4 << 20, 32
@@ -205,7 +205,7 @@ class Desk:
         """What is told of a drawing. How it ended is always told, and that it is over."""
         text = ""
         try:
-            turn = self.turns.enter()
+            turn = self.turns.enter(is_drawing=True)
             try:
                 if self.has_turn(job, turn):
                     text = self.told(job, turn)
@@ -246,7 +246,9 @@ class Desk:
             for piece in running.pieces():
                 lines, line_end, rest = (rest + piece).rpartition(b"\n")
                 ends = [line for line in lines.split(b"\n") if line.startswith(b'{"kind":"end"')]
-                job.how = json.loads(ends[-1])["how"] if ends else job.how
+                if ends:
+                    job.how = json.loads(ends[-1])["how"]
+                    turn.looks(lambda: running.stop(MAKE_WAY))
                 if job.size + len(lines) > MOST_TOLD:
                     raise Refused(f"more than {many(MOST_TOLD >> 20, 'MiB', 'MiB')} are told of this drawing")
                 if lines:
@@ -257,19 +259,23 @@ class Desk:
         is_right = TOLD_ALL.search(running.said.read_text(errors="replace")) if running.said.exists() else None
         return "" if is_right or running.is_stopped or job.has_ended else running.complaint()
 
-    def made(self, job: Job, words: list[str]) -> bytes:
-        """What a command over a job's drawing writes to standard output."""
+    def made(self, job: Job, words: list[str], is_look: bool = False) -> bytes:
+        """What a command over a job's drawing writes to standard output; what looks beyond a search makes way for a drawing."""
         turn = self.turns.enter()
         try:
             while not turn.has_come():
                 if job.has_ended:
                     raise Unfit(404, "the page is closed")
             running = self.run(job, turn, words)
+            if is_look:
+                turn.looks(running.make_way)
             try:
                 out = b"".join(running.pieces())
             finally:
                 running.end()
                 job.running.remove(running)
+            if running.is_stopped:
+                raise Unfit(503, "it made way for another drawing that was dropped in: ask again")
             if running.process.wait():
                 raise Unfit(422, running.complaint())
             return out

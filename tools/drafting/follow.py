@@ -3,7 +3,8 @@ to its page and `draft page` puts into its file. First what was changed or left 
 told by their blocks, page by page, while the program still searches; then how it ended; and then what is wrong, where no solid has
 the views, or what would settle it, where several have them.
 
-With --attended standard input is whoever asked: a line `stop` ends the search, and what is found is told; its end ends everything.
+With --attended standard input is whoever asked: a line `stop` ends the search, and what is found is told; once that has ended it ends what is
+looked for beyond it, as `make way` does, where another drawing waits. Its end ends everything.
 """
 import argparse
 import itertools
@@ -28,6 +29,7 @@ from .messages import Refused, many, say
 from .noted import Note
 from .panels import sheet_of
 from .shown import Units
+from .turns import MAKE_WAY, STOP
 
 NAME = "follow"
 HELP = "ask recon about a drawing, and tell as it goes; `draft serve` runs it"
@@ -108,11 +110,16 @@ def stopped_event(count: int, why_stopped: str = "") -> Event:
     return end_event("stopped", shown.stopped_told(count, why_stopped))
 
 
+def unmeant(text: str) -> Event:
+    """Why it isn't told what would settle it."""
+    return {"kind": "means", "rows": [], "text": text}
+
+
 def means_event(its: Blocks, choices: list[str], lines: list[str], decimals: int) -> Event:
     """What further views and sections show: for each solid, in the stated order, the number of its group. Views, which the program reads,
     come before sections, which it doesn't."""
     if len(choices) > MOST_SETTLED or len(choices) * its.grid.count > MOST_CELLS:
-        return {"kind": "means", "rows": [], "text": f"What would settle it isn't looked for among {many(len(choices), 'solid')}."}
+        return unmeant(f"What would settle it isn't looked for among {many(len(choices), 'solid')}.")
     solids = settle.Solids(its.grid, list(map(its.full, sorted(choices, reverse=True))))
     views, sections = settle.all_means(solids, sheet_of(views_of(lines), decimals))
     # What a mirror shows isn't drawn beside solids that are turned back.
@@ -142,6 +149,8 @@ class Search:
         self.choices: list[str] = []
         self.kept: set[str] | None = None
         self.rounds: Readings | None = None
+        # How it is told that what is looked for beyond the search was ended before it was found, as long as that is so.
+        self.unlooked: Callable[[str], Event] | None = None
 
     @property
     def shown(self) -> list[str]:
@@ -181,6 +190,10 @@ class Search:
         self.lines, self.decimals, self.blocks = lines_within(data), decimals, its
         words = ["solve", *asking.views_words(self.lines), *asking.decimals_words(("solve",), decimals), *asking.words_of(arguments), "--pages"]
         yield from self.searched(program.find(arguments.program), list(map(str, words)), data, arguments.seconds)
+        if len(self.shown) > 1:
+            self.unlooked = lambda why: unmeant(f"What would settle it wasn't looked for to its end, {why}.")
+        elif not self.choices and WHOLE.fullmatch(self.head):
+            self.unlooked = lambda why: looked(f"What would have to be drawn otherwise wasn't looked for to its end, {why}.", [])
         if self.head:
             ended = shown.head_told(self.head, len(self.shown), missing_in(views_of(self.lines)), self.rounds)
             yield end_event("cut" if CUT.fullmatch(self.head) else "whole", ended)
@@ -251,7 +264,7 @@ class Search:
     def means(self) -> Event:
         """What would settle it; whoever stopped the search doesn't wait for that."""
         if not self.head:
-            return {"kind": "means", "rows": [], "text": "What would settle it isn't looked for, since the search was stopped."}
+            return unmeant("What would settle it isn't looked for, since the search was stopped.")
         return means_event(self.blocks, self.shown, self.lines, self.decimals)
 
 
@@ -287,6 +300,11 @@ def as_it_comes(work: Callable[[Callable[[Event], None]], None]) -> Events:
         yield came
 
 
+def looked(first: str, rows: list[str]) -> Event:
+    """What came of the look at what would have to be drawn otherwise."""
+    return {"kind": "looked", "rows": rows, "first": first}
+
+
 def suggest(asked: asking.Asked, arguments: argparse.Namespace, emit: Callable[[Event], None]) -> None:
     """Looks for what would have to be drawn otherwise, and hands over each change as it is found."""
     told: list[str] = []
@@ -301,7 +319,7 @@ def suggest(asked: asking.Asked, arguments: argparse.Namespace, emit: Callable[[
     for one in found:
         if one.words[0] not in told:
             tell(one)
-    emit({"kind": "looked", "rows": [row for row in rows[1:] if row.strip() not in told], "first": rows[0]})
+    emit(looked(rows[0], [row for row in rows[1:] if row.strip() not in told]))
 
 
 # ---- one drawing
@@ -322,7 +340,11 @@ def follow(arguments: argparse.Namespace, search: Search) -> Events:
         search.take_rounds(asked.rounds)
         yield from rounds_events(asked)
         yield from search.events(asked.data, asked.decimals, blocks.blocks_in(asked.run.text), arguments)
+        beyond = search.unlooked
+        if asked.page and asked.page.lacking:
+            search.unlooked = lambda why: said(f"What the page leaves open as it is wasn't looked for to its end, {why}")
         yield from map(said, left_open.told(asked, arguments))
+        search.unlooked = beyond
         if WHOLE.fullmatch(search.head) and not search.choices:
             known = asked._replace(run=program.Run(program.WHOLE, f"{search.head}\n", 0.0))
             yield from as_it_comes(lambda emit: suggest(known, arguments, emit))
@@ -341,17 +363,21 @@ def refused(arguments: argparse.Namespace, refusal: Refused, search: Search) -> 
     yield end_event("refused", shown.refused_told(str(refusal)), str(refusal))
 
 
-def listen(search: Search, source: IO[str], ended: list[str], emit: Callable[[Event], None]) -> None:
+# Why what is looked for beyond a search is ended, by the line that asks for that.
+WHY = {STOP: "since it was stopped", MAKE_WAY: "since another drawing was dropped in: read this one again for it"}
+
+
+def listen(search: Search, source: IO[str], ended: list[str], last: Callable[[Event | None], None]) -> None:
     """Does what whoever asked says, and ends with them. What is stopped before its search has begun is told to be, and is over; so is what
     is looked for once the search has ended."""
-    for line in source:
-        if line.strip() != "stop":
+    for line in map(str.strip, source):
+        if line not in WHY or line == MAKE_WAY and not ended:
             continue
         search.stop()
-        if ended or search.process is None:
-            if not ended:
-                emit(stopped_event(0))
-            break
+        if ended:
+            last(search.unlooked and search.unlooked(WHY[line]))
+        elif search.process is None:
+            last(stopped_event(0))
     os.killpg(0, signal.SIGKILL)
 
 
@@ -361,17 +387,28 @@ def run(arguments: argparse.Namespace) -> int:
 
     def emit(event: Event) -> None:
         with lock:
-            if event["kind"] == "end":
-                ended.append(event["how"])
-            sys.stdout.write(json.dumps(event, separators=(",", ":")) + "\n")
-            sys.stdout.flush()
+            tell(event)
+
+    def tell(event: Event) -> None:
+        if event["kind"] == "end":
+            ended.append(event["how"])
+        elif event["kind"] in ("means", "looked"):
+            search.unlooked = None
+        sys.stdout.write(json.dumps(event, separators=(",", ":")) + "\n")
+        sys.stdout.flush()
+
+    def last(event: Event | None) -> None:
+        with lock:
+            if event:
+                tell(event)
+            os.killpg(0, signal.SIGKILL)
 
     search = Search()
     if arguments.attended:
         if os.getpgid(0) != os.getpid():
             os.setpgid(0, 0)
         # Not by sys.stdin, which is locked while it is read, and which the processes of `trials` close.
-        threading.Thread(target=listen, args=(search, os.fdopen(os.dup(0)), ended, emit), daemon=True).start()
+        threading.Thread(target=listen, args=(search, os.fdopen(os.dup(0)), ended, last), daemon=True).start()
     for event in follow(arguments, search):
         emit(event)
     say(f"draft follow: {many(len(search.choices), 'solid')} told")

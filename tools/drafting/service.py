@@ -246,7 +246,7 @@ def settle() -> flask.Response:
     if job.how == "stopped":
         raise Unfit(422, "the search was stopped, so that its solids have no numbers that stay: read the drawing again, to the end")
     words = [f"--meant={number}", "--json", *(f"--by={view}" for view in views)]
-    return flask.Response(desk().made(job, desk().words(job, "settle", job.given.name, *words)), mimetype="application/json")
+    return flask.Response(desk().made(job, desk().words(job, "settle", job.given.name, *words), is_look=True), mimetype="application/json")
 
 
 @asked_for.post("/page")

@@ -1,4 +1,5 @@
-"""Processes with limits of time, memory and processors, so many at once; who comes later waits for a turn."""
+"""Processes with limits of time, memory and processors, so many at once; who comes later waits for a turn. A drawing comes before what is
+looked for beyond the search of another one: that makes way for it."""
 import os
 import pathlib
 import re
@@ -7,7 +8,7 @@ import select
 import signal
 import subprocess
 import threading
-from collections.abc import Iterator
+from collections.abc import Callable, Iterator
 from typing import NamedTuple
 
 from . import controls
@@ -16,6 +17,8 @@ from .messages import Refused
 # How many may wait for a turn, and after how many seconds without a word one is looked after.
 MOST_WAITING, HEARTBEAT = 64, 0.25
 PIECE = 1 << 16
+# What a process is asked for on its standard input.
+STOP, MAKE_WAY = "stop", "make way"
 
 
 class Limits(NamedTuple):
@@ -40,29 +43,34 @@ class Limits(NamedTuple):
 
 
 class Turns:
-    """The slots for processes, and who waits for one, in the order in which they came."""
+    """The slots for processes; who waits for one, drawings first, else in the order in which they came; who looks beyond a search, and who of
+    these was asked to make way."""
 
     def __init__(self, at_once: int) -> None:
         self.free = set(range(at_once))
         self.waiting: list["Turn"] = []
+        self.looking: list["Turn"] = []
+        self.parting: set["Turn"] = set()
         self.changed = threading.Condition()
 
-    def enter(self) -> "Turn":
+    def enter(self, is_drawing: bool = False) -> "Turn":
         """A place in the queue; refused where too many wait."""
         with self.changed:
             if len(self.waiting) >= MOST_WAITING:
                 raise Refused(f"{MOST_WAITING} wait for their turn: try again later")
-            turn = Turn(self)
+            turn = Turn(self, is_drawing)
             self.waiting.append(turn)
+            self.waiting.sort(key=lambda it: not it.is_drawing)
             return turn
 
 
 class Turn:
     """A place in the queue, and then a slot."""
 
-    def __init__(self, turns: Turns) -> None:
-        self.turns = turns
+    def __init__(self, turns: Turns, is_drawing: bool) -> None:
+        self.turns, self.is_drawing = turns, is_drawing
         self.slot: int | None = None
+        self.make_way: Callable[[], object] = lambda: None
 
     def before(self) -> int:
         """How many wait before this one."""
@@ -71,21 +79,40 @@ class Turn:
 
     def has_come(self, seconds: float = HEARTBEAT) -> bool:
         """Whether it is this one's turn, or becomes it within so many seconds."""
-        def is_next() -> bool:
-            return bool(self.turns.free) and bool(self.turns.waiting) and self.turns.waiting[0] is self
+        turns = self.turns
+        with turns.changed:
+            if self.slot is not None or not turns.changed.wait_for(self.is_next, seconds):
+                return self.slot is not None
+            if turns.free:
+                turns.waiting.remove(self)
+                self.slot = min(turns.free)
+                turns.free.remove(self.slot)
+                turns.changed.notify_all()
+                return True
+            other = turns.looking.pop(0)
+            turns.parting.add(other)
+        other.make_way()
+        return False
 
+    def is_next(self) -> bool:
+        """Whether a slot is this one's, or can be made so."""
+        turns = self.turns
+        can_be_made = self.is_drawing and bool(turns.looking) and not turns.parting
+        return turns.waiting[:1] == [self] and (bool(turns.free) or can_be_made)
+
+    def looks(self, make_way: Callable[[], object]) -> None:
+        """From now on something is looked for beyond a search, which ends when it is asked to make way."""
         with self.turns.changed:
-            if self.slot is None and self.turns.changed.wait_for(is_next, seconds):
-                self.turns.waiting.remove(self)
-                self.slot = min(self.turns.free)
-                self.turns.free.remove(self.slot)
-                self.turns.changed.notify_all()
-            return self.slot is not None
+            self.make_way = make_way
+            self.turns.looking.append(self)
+            self.turns.changed.notify_all()
 
     def leave(self) -> None:
         with self.turns.changed:
-            if self in self.turns.waiting:
-                self.turns.waiting.remove(self)
+            self.turns.parting.discard(self)
+            for those in (self.turns.waiting, self.turns.looking):
+                if self in those:
+                    those.remove(self)
             if self.slot is not None:
                 self.turns.free.add(self.slot)
                 self.slot = None
@@ -124,14 +151,19 @@ class Running:
                 return
             yield piece
 
-    def stop(self) -> None:
-        """Asks it to end its search."""
+    def stop(self, word: str = STOP) -> None:
+        """Asks it to end its search, or to make way for a drawing."""
         self.is_stopped = True
         try:
             assert self.process.stdin
-            self.process.stdin.write(b"stop\n")
+            self.process.stdin.write(f"{word}\n".encode())
         except OSError:
             pass
+
+    def make_way(self) -> None:
+        """Ends it for a drawing."""
+        self.is_stopped = True
+        self.end()
 
     def late(self) -> None:
         """Ends it since its time is up, and gives its turn to who waits, even where nobody reads what it wrote."""

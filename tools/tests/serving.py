@@ -69,6 +69,22 @@ def slowed(folder: pathlib.Path) -> pathlib.Path:
     return path
 
 
+HESITANT = """#!/usr/bin/python3
+import os, sys, time
+if sys.argv[1] != "blocks" and "--pages" not in sys.argv:
+    time.sleep(60)
+os.execv({program!r}, [{program!r}, *sys.argv[1:]])
+"""
+
+
+def hesitant(folder: pathlib.Path) -> pathlib.Path:
+    """A program that answers as the built one does, after a minute where it is asked for what goes beyond a drawing's search."""
+    path = folder / "hesitant"
+    path.write_text(HESITANT.format(program=str(program.find())))
+    path.chmod(0o755)
+    return path
+
+
 class Served:
     """A server that runs until it is closed."""
 

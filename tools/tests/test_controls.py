@@ -11,7 +11,7 @@ import sys
 import unittest
 from collections.abc import Iterator
 
-from drafting import asking, command, controls, documents, itself, page, service
+from drafting import command, controls, documents, itself, page, service
 
 from .support import TOOLS
 

@@ -20,7 +20,7 @@ from drafting.follow import solids_event
 from drafting.messages import Refused
 
 from .made import file_of, voids
-from .serving import EDGE, Answered, Served, form, part, slowed, takes_limits
+from .serving import EDGE, Answered, Served, form, hesitant, part, slowed, takes_limits
 from .support import EXAMPLES, draft, needs_program
 
 needs_packages = unittest.skipUnless(
@@ -309,6 +309,33 @@ class Limits(unittest.TestCase):
             began = time.monotonic()
             self.assertNotIn("grid", kinds_of(self.stopped(served, third)))
             self.assertLess(time.monotonic() - began, 20)
+
+    def test_a_drawing_comes_before_what_is_looked_for_beyond_a_search(self) -> None:
+        """What would have to be drawn otherwise, or added, makes way for a drawing that comes, and that is told; so is a stop."""
+        room = tempfile.TemporaryDirectory()
+        self.addCleanup(room.cleanup)
+        half_hidden = (EXAMPLES / "quartered_cube_half_hidden.dxf").read_bytes()
+        with Served("--at-once", 1, "--program", hesitant(pathlib.Path(room.name))) as served:
+            for stop, why in ((False, "since another drawing was dropped in"), (True, "since it was stopped")):
+                first = served.job(half_hidden)
+                events = served.events(first)
+                next(event for event in events if event["kind"] == "looking")
+                if stop:
+                    served.tell("/stop", job=first)
+                else:
+                    second = served.job(CUBE)
+                    self.assertEqual(len(choices_in(list(served.events(second, 40)))), 3)
+                told = list(events)
+                self.assertEqual([why in event["first"] for event in told if event["kind"] == "looked"], [True], told)
+                self.assertEqual(told[-1], {"kind": "over", "text": ""})
+            asked: list[Answered] = []
+            thread = threading.Thread(target=lambda: asked.append(served.tell("/settle", job=second, number=1)))
+            thread.start()
+            while not served.below():
+                time.sleep(0.05)
+            self.assertEqual(len(choices_in(list(served.events(served.job(CUBE), 40)))), 3)
+            thread.join()
+            self.assertEqual((asked[0].status, "another drawing" in asked[0].text), (503, True), asked)
 
     @unittest.skipUnless(takes_limits(), "the built program is one with checks, which runs within no limit of memory")
     def test_memory_is_limited(self) -> None:

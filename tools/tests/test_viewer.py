@@ -13,7 +13,7 @@ from drafting.triangles import edges_of, triangles_of, volume_of
 
 from .made import file_of, voids
 from .opened import IS_OVER, PATIENCE, Opened, button
-from .serving import Served, slowed
+from .serving import Served, hesitant, slowed
 from .support import EXAMPLES, needs_command, needs_module, needs_program
 from .test_page import LINE, rectangle
 from .test_serve import many_lines, needs_packages
@@ -261,6 +261,23 @@ class Viewer(Opened):
             self.browser.until("/Reading/.test(document.querySelector('.progress').innerText)", PATIENCE)
             self.press(button("Stop"))
             self.browser.until(f"({IS_OVER}) && /was stopped/.test(document.querySelector('.told').innerText)", PATIENCE)
+            self.browser.close_tab()
+            self.browser.events = []
+
+    def test_a_drawing_comes_before_what_is_looked_for_beyond_a_search(self) -> None:
+        """It is shown while another tab's drawing is still looked into, and there it is told that this makes way."""
+        with Served("--at-once", 1, "--program", hesitant(self.folder)) as served:
+            self.browser.close_tab()
+            first = self.browser.visit(served.address)
+            self.browser.drop(EXAMPLES / "quartered_cube_half_hidden.dxf")
+            self.browser.until("/Changes are tried/.test(document.querySelector('#why .state').innerText)", PATIENCE)
+            self.browser.visit(served.address)
+            self.browser.drop(EXAMPLES / "clevis.dxf")
+            self.browser.until("!!document.querySelector('.verdict.unique')", 40)
+            self.browser.close_tab()
+            self.browser.turn_to(first)
+            self.browser.until(IS_OVER, PATIENCE)
+            self.assertIn("since another drawing was dropped in: read this one again for it", self.text("#why .state"))
             self.browser.close_tab()
             self.browser.events = []
 
