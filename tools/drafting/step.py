@@ -53,7 +53,7 @@ class Shapes(NamedTuple):
 
     head: str
     shapes: dict[int, Shape]
-    count: int
+    listed: int
     unit: str
 
 
@@ -147,7 +147,7 @@ def run(arguments: argparse.Namespace) -> int:
         raise Refused(f"{arguments.shape} ends neither in .step nor in .brep")
     made = given_shapes(arguments) if arguments.answer else shapes_of(arguments)
     if arguments.only is not None and arguments.only not in made.shapes:
-        raise Refused(f"there is no solid {arguments.only}: {many(made.count, 'solid')} of this drawing")
+        raise Refused(f"there is no solid {arguments.only}: {many(made.listed, 'solid')} of this drawing")
     if made.unit != "mm":
         say("draft step: " + (f"lengths in the files are millimetres, {float(MILLIMETRES[made.unit]):.9g} to the {made.unit}" if made.unit else
                               "no unit of length is told: millimetres are taken"))
