@@ -49,6 +49,10 @@ class Line(NamedTuple):
     known: bool = True
 
 
+# The lines of each view.
+Views = Mapping[str, Sequence[Line]]
+
+
 class Entry(NamedTuple):
     """An entry of a section: its pairs, the first value of each of its codes, and the lines of the file where it begins and ends."""
 
@@ -103,26 +107,59 @@ def pairs_of(lines: list[str]) -> Iterator[tuple[int, int, str]]:
         yield 2 * number + 1, code, value
 
 
+class Content:
+    """What the lines of a drawing say, read when it is asked for."""
+
+    def __init__(self, lines: list[str]) -> None:
+        self.lines = lines
+
+    @functools.cached_property
+    def codes(self) -> list[int]:
+        """The codes of its pairs up to what is no pair."""
+        codes = list(map(code_of, self.lines[0:len(self.lines) - 1:2]))
+        return [code for code in codes[:codes.index(None) if None in codes else None] if code is not None]
+
+    @functools.cached_property
+    def entries(self) -> list[Entry]:
+        return list(entries_within(self.lines, self.codes))
+
+    @functools.cached_property
+    def views(self) -> Views:
+        return views_within(entries_of(self.lines))
+
+    @functools.cached_property
+    def comments(self) -> list[tuple[int, str]]:
+        """The comments that stand before its entities, each with the line of its code."""
+        values = self.lines[1::2]
+        ends = (at for at, code in enumerate(self.codes) if (code, values[at]) == (2, "ENTITIES") or code == 0 and values[at].upper() == "EOF")
+        return [(2 * at + 1, values[at]) for at in range(next(ends, len(self.codes))) if self.codes[at] == 999]
+
+
 class Held:
-    """The file that was read last, and the entries of the lines that were asked about last: a drawing's are, several times in a row."""
+    """The file that was read last, and what the lines say that were asked about last: a drawing's are, several times in a row."""
 
     data = b""
     text: list[str] = [""]
-    lines: list[str] = []
-    entries: list[Entry] = []
+    content = Content([])
+
+
+def content_of(lines: list[str]) -> Content:
+    if Held.content.lines is lines:
+        return Held.content
+    content = Content(lines)
+    if len(lines) <= MOST_HELD:
+        Held.content = content
+    return content
 
 
 def entries_of(lines: list[str]) -> Iterable[Entry]:
     """The entries of a drawing; what belongs to an application is passed over, and so are comments."""
-    if len(lines) > MOST_HELD:
-        return entries_within(lines)
-    if Held.lines is not lines:
-        Held.entries, Held.lines = list(entries_within(lines)), lines
-    return Held.entries
+    content = content_of(lines)
+    return content.entries if len(lines) <= MOST_HELD else entries_within(lines, content.codes)
 
 
-def entries_within(lines: list[str]) -> Iterator[Entry]:
-    codes, values = codes_of(lines), lines[1::2]
+def entries_within(lines: list[str], codes: list[int]) -> Iterator[Entry]:
+    values = lines[1::2]
     begins = [at for at, code in enumerate(codes) if code == 0]
     section = ""
     for at, behind in zip(begins, [*begins[1:], len(codes)]):
@@ -130,17 +167,13 @@ def entries_within(lines: list[str]) -> Iterator[Entry]:
         if name == "EOF":
             return
         pairs = list(zip(codes[at + 1:behind], values[at + 1:behind]))
+        firsts = dict(reversed(pairs))
         if name == "SECTION":
             section = next((value.upper() for code, value in reversed(pairs) if code == 2), section)
-        if any(code in (102, 999) for code, _ in pairs):
+        if 102 in firsts or 999 in firsts:
             pairs = own_of(pairs)
-        yield Entry(within, name, pairs, dict(reversed(pairs)), 2 * at + 1, 2 * behind)
-
-
-def codes_of(lines: list[str]) -> list[int]:
-    """The codes of a drawing's pairs up to what is no pair."""
-    codes = list(map(code_of, lines[0:len(lines) - 1:2]))
-    return [code for code in codes[:codes.index(None) if None in codes else None] if code is not None]
+            firsts = dict(reversed(pairs))
+        yield Entry(within, name, pairs, firsts, 2 * at + 1, 2 * behind)
 
 
 def own_of(pairs: list[tuple[int, str]]) -> list[tuple[int, str]]:
@@ -173,11 +206,15 @@ def sides_of(entry: Entry) -> list[tuple[Place, Place]]:
     return [ends for ends in zip(points, points[1:]) if ends[0] != ends[1] and all(map(math.isfinite, ends[0] + ends[1]))]
 
 
-def views_of(lines: list[str]) -> dict[str, list[Line]]:
+def views_of(lines: list[str]) -> Views:
     """The lines that can be read of each of the three views, and of each further one that has some."""
+    return content_of(lines).views
+
+
+def views_within(entries: Iterable[Entry]) -> dict[str, list[Line]]:
     layers: dict[str, str] = {}
     views: dict[str, list[Line]] = {view: [] for view in (*VIEWS, *FURTHER)}
-    for entry in entries_of(lines):
+    for entry in entries:
         layer = entry.values.get(8, "").upper()
         if entry.section == "TABLES" and entry.name == "LAYER":
             layers.setdefault(entry.values.get(2, "").upper(), entry.values.get(6, "").upper())

@@ -15,7 +15,7 @@ import re
 from collections.abc import Callable, Iterator
 from typing import NamedTuple
 
-from .drawing import FURTHER, VIEWS, Place, pairs, pairs_of
+from .drawing import FURTHER, VIEWS, Place, content_of, pairs
 from .messages import Refused
 from .reading import Arc, Edge, Source
 from .rounds import Quarter, Round, Slant
@@ -284,18 +284,15 @@ TAKES: dict[str, Callable[..., None]] = {
 def given_in(lines: list[str]) -> Given | None:
     """What a drawing says of the sheet that it was squared off from; nothing where it wasn't."""
     given, count = Given([], {}, {}, [], [], []), 0
-    for number, code, value in pairs_of(lines):
-        if (code, value) == (2, "ENTITIES"):
-            break
-        if code != 999 or not value.startswith("draft "):
-            continue
-        word, _, rest = value.removeprefix("draft ").partition(" ")
-        if word not in FORMS:
+    for number, text in content_of(lines).comments:
+        name, _, words = text.partition(" ")
+        word, _, rest = words.partition(" ")
+        if name != "draft" or word not in FORMS:
             continue
         count += 1
         told = PATTERNS[word].fullmatch(rest)
         if told is None or count > MOST:
-            raise Refused(f"line {number + 1:,} isn't what `draft sheet` writes of a squared-off sheet: {value[:60]}")
+            raise Refused(f"line {number + 1:,} isn't what `draft sheet` writes of a squared-off sheet: {text[:60]}")
         if word == "reading":
             given = given._replace(reading=(int(told[1]), int(told[2])))
         elif word == "chamfer":

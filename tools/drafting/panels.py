@@ -9,7 +9,7 @@ from collections.abc import Iterable, Sequence
 from fractions import Fraction
 from typing import NamedTuple, Protocol
 
-from .drawing import FURTHER, VIEWS, Line
+from .drawing import FURTHER, VIEWS, Line, Views
 from .messages import Refused
 
 BLANK, DASHED, SOLID = range(3)
@@ -173,7 +173,7 @@ def strokes_of(view: str, lines: Iterable[Line], decimals: int) -> list[Stroke]:
     return strokes
 
 
-def sheet_of(views: dict[str, list[Line]], decimals: int) -> Sheet:
+def sheet_of(views: Views, decimals: int) -> Sheet:
     """The sheet of a drawing's three views, of which one may be missing; refused where two are."""
     sheet = Sheet([], {}, decimals)
     drawn = {view: strokes for view in VIEWS if (strokes := strokes_of(view, views[view], decimals))}
@@ -343,7 +343,7 @@ def strokes_shown(shown: Shown, right: int, up: int) -> list[tuple[bool, tuple[i
     return lines
 
 
-def further_of(views: dict[str, list[Line]], decimals: int) -> dict[str, Shown]:
+def further_of(views: Views, decimals: int) -> dict[str, Shown]:
     """What a drawing shows in each further view that it has, in units."""
     return {view: shown_by(strokes_of(view, lines, decimals)) for view, lines in views.items() if view in FURTHER}
 

@@ -14,7 +14,7 @@ from typing import NamedTuple
 from . import asking, program, reading, seen
 from .answers import CUT, FAULT, Point, Solid, answer_of, text_of
 from .cells import Grid, grid_round
-from .drawing import Line, Place, lines_within, origin_of, views_of
+from .drawing import Place, Views, lines_within, origin_of, views_of
 from .given import Given, given_in
 from .kept import LACKING, outcome
 from .messages import Refused, write_result
@@ -153,7 +153,7 @@ class Beside(NamedTuple):
     note: str
 
 
-def picture(views: dict[str, list[Line]], text: str | None, marked: int | None = None) -> Iterator[str]:
+def picture(views: Views, text: str | None, marked: int | None = None) -> Iterator[str]:
     """The picture of some views and of an answer; the lines of the views that a number of the file tells are marked."""
     if not any(views.values()):
         raise Refused("no line is on the layer FRONT, TOP or SIDE: of a sheet `draft sheet` draws the views")
@@ -178,7 +178,7 @@ def rounded_picture(lines: list[str], given: Given, text: str | None) -> Iterato
 
 
 def whole_picture(
-    views: dict[str, list[Line]], solids: Beside | None, marked: int | None, curves: Mapping[str, list[Curve]] = {}
+    views: Views, solids: Beside | None, marked: int | None, curves: Mapping[str, list[Curve]] = {}
 ) -> Iterator[str]:
     """The picture of some views, and of solids beside them."""
     columns = min(solids.shown, 3) if solids else 0

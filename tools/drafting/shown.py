@@ -7,7 +7,7 @@ from typing import NamedTuple
 from . import asking, faults, seen
 from .answering import Readings
 from .answers import CUT, have_views
-from .drawing import Line, Origin, Place
+from .drawing import Origin, Place, Views
 from .given import Given
 from .messages import many
 from .svg import VIEWS, Curve, views_drawn
@@ -119,7 +119,7 @@ def stopped_told(count: int, why: str) -> str:
 
 # ---- the views
 
-def sizes_told(views: dict[str, list[Line]], units: Units) -> str:
+def sizes_told(views: Views, units: Units) -> str:
     """How far each view reaches to the right and upwards."""
     rows = []
     for view, lines in views.items():
@@ -130,7 +130,7 @@ def sizes_told(views: dict[str, list[Line]], units: Units) -> str:
     return html.escape("; ".join(rows))
 
 
-def views_told(views: dict[str, list[Line]], units: Units, marked: int | None = None, curves: Mapping[str, list[Curve]] = {}) -> str:
+def views_told(views: Views, units: Units, marked: int | None = None, curves: Mapping[str, list[Curve]] = {}) -> str:
     """The views as a picture, in which each line tells its place and length."""
     def measured(view: str, kind: str, low: Place, high: Place) -> str:
         ends = [", ".join(units.told(round(at * 10**units.decimals)) for at in end) for end in (low, high)]
@@ -142,7 +142,7 @@ def views_told(views: dict[str, list[Line]], units: Units, marked: int | None = 
     return f'<svg viewBox="0 0 {size} {size}" role="img" aria-label="The views">{parts}</svg>'
 
 
-def drawing_told(views: dict[str, list[Line]], units: Units, head: str = "", given: Given | None = None) -> str:
+def drawing_told(views: Views, units: Units, head: str = "", given: Given | None = None) -> str:
     """The views with what is to be said of them; where the answer's first line is a fault, with the line that it names; and with their
     rounds, where these were squared off."""
     if not any(views.values()):

@@ -2,10 +2,10 @@
 import functools
 import html
 import itertools
-from collections.abc import Callable, Iterable, Iterator, Mapping
+from collections.abc import Callable, Iterable, Iterator, Mapping, Sequence
 
 from .drawing import VIEWS as MAIN
-from .drawing import Line, Place
+from .drawing import Line, Place, Views
 
 # Sizes on the picture, in pixels: the square that the views stand in, and what is between them.
 VIEWS, GAP = 290, 36
@@ -55,7 +55,7 @@ class View:
     """A view's strokes and rounds, moved to least coordinates 0, and how far they reach. Of a line of the file that is marked, the line
     that it tells of is a further stroke."""
 
-    def __init__(self, lines: list[Line], marked: int | None, curves: Iterable[Curve] = ()) -> None:
+    def __init__(self, lines: Sequence[Line], marked: int | None, curves: Iterable[Curve] = ()) -> None:
         self.curves = list(curves)
         points = [point for line in lines for point in (line.start, line.end)] or [(0.0, 0.0)]
         self.left, self.low = (min(point[axis] for point in points) for axis in (0, 1))
@@ -89,7 +89,7 @@ def steps(sizes: dict[int, float], start: float, scale: float) -> dict[int, floa
 
 
 def views_drawn(
-    views: dict[str, list[Line]], left: float, top: float, marked: int | None = None, told: Told | None = None,
+    views: Views, left: float, top: float, marked: int | None = None, told: Told | None = None,
     curves: Mapping[str, list[Curve]] = {},
 ) -> Iterator[str]:
     """The views in third-angle places in a square from there, with the lines that join them."""

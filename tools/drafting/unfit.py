@@ -11,7 +11,7 @@ from typing import NamedTuple
 from . import program, trials
 from .answers import Solid, answer_of
 from .cells import grid_round
-from .drawing import Line
+from .drawing import Views
 from .messages import Progress, Refused, many
 from .panels import BLANK, DASHED, SOLID, STYLES, Sheet, Shown, Stroke, further_of, shown_of, strokes_of, strokes_shown
 
@@ -79,7 +79,7 @@ def stretch_told(stretch: Stretch, sheet: Sheet, strokes: list[Stroke]) -> str:
     return f"{stretch.view} {place}{lines}: {was_drawn(stretch.drawn)}; the solid shows {STYLES[stretch.shown]}"
 
 
-def told(path: pathlib.Path, words: list[object], sheet: Sheet, views: dict[str, list[Line]], main: bytes, listed: str) -> list[str]:
+def told(path: pathlib.Path, words: list[object], sheet: Sheet, views: Views, main: bytes, listed: str) -> list[str]:
     """What is told of a drawing with such further views, where the program lists these solids of its main views, which are the lines of
     another file."""
     further = further_of(views, sheet.decimals)
