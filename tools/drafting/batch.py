@@ -26,11 +26,10 @@ import tempfile
 import time
 import zlib
 from collections.abc import Generator, Iterator
+from fractions import Fraction
 from typing import Any, NamedTuple, NoReturn
 
-from . import asking, faults, messages, noted, program, records, sheet, sums
-from .answers import CUT, FAULT, answer_of
-from .drawing import VIEWS, places_of, written
+from . import asking, messages, program, reading, records, sums
 from .given import given_in
 from .messages import Refused
 from .noted import Note
@@ -46,8 +45,6 @@ GROWN = 256 << 20
 SELDOM = 1_000_000
 # What a worker may take to end by itself, once the program has run out of its time.
 GRACE = 5.0
-# How often the small sheet is drawn by which a batch begins.
-WARM = 3
 # As GNU parallel tells a job the machine on which it runs.
 MACHINE = os.environ.get("PARALLEL_SSHLOGIN", ":")
 CHANGED = "was changed meanwhile"
@@ -102,20 +99,20 @@ def options() -> argparse.ArgumentParser:
 
 # ---- one drawing
 
-def message_of(asked: asking.Asked, warnings: list[str]) -> tuple[str, int | None]:
-    """What is said of an answer, and how many solids it lists; none of a fault."""
-    answer = answer_of(asked.run.text, 1)
-    if FAULT.fullmatch(answer.head):
-        return "; ".join([*faults.told(answer.head, asked.lines), *warnings]), None
+def message_of(asked: asking.Asked, record: records.Record, warnings: list[str]) -> str:
+    """What is said of an answer, by its record."""
+    if record["fault"]:
+        return "; ".join([record["fault"]["message"], *warnings])
     if asked.rounds:
         first = next(iter(asked.rounds.kept), asked.rounds.first)
         told = [f"volume {asked.rounded_volume(asked.kept[0])}"] if len(asked.kept) == 1 else []
         told += [*(first.outcome.told()[:1] if first else []), *asked.rounds.told()[:1]]
-        return "; ".join([*told, *warnings]), len(asked.kept)
-    said = [f"volume {asked.volume(answer.solids[0].volume)}"] if answer.listed == 1 else []
+        return "; ".join([*told, *warnings])
+    head = asked.run.text.partition("\n")[0]
+    said = [f"volume {asking.measure(Fraction(it['volume']), asked.cubic())}" for it in record["solids"] if record["listed"] == 1]
     said += [f"two views, without {asked.missing}"] if asked.missing else []
-    said += [f"{answer.head}: {'there are' if 'solids' in answer.head else 'there may be'} more"] if CUT.fullmatch(answer.head) else []
-    return "; ".join([*said, *warnings]), answer.listed
+    said += [f"{head}: {'there are' if 'solids' in head else 'there may be'} more"] if record["limits"]["hit"] else []
+    return "; ".join([*said, *warnings])
 
 
 def row_of(folder: str, path: str, arguments: argparse.Namespace) -> Row:
@@ -125,9 +122,9 @@ def row_of(folder: str, path: str, arguments: argparse.Namespace) -> Row:
     try:
         os.chdir(folder)
         asked = asking.ask(path, arguments, notes.append)
-        message, solids = message_of(asked, [str(note) for note in notes if note.kind == "warning"])
-        given = given_in(asked.lines)
-        record = records.record(asked, named, notes, records.LISTED, with_faces=False)
+        given, record = given_in(asked.lines), records.record(asked, named, notes, records.LISTED, with_faces=False)
+        message = message_of(asked, record, [str(note) for note in notes if note.kind == "warning"])
+        solids = None if record["fault"] else record["listed"]
         return {"status": asked.run.status, "solids": solids, "rounds": len(given.squared) if given else 0, "message": message, "record": record}
     except program.Failed as failure:
         return {"status": FAILED, "message": str(failure), "record": records.without_answer(named, failure, notes)}
@@ -271,23 +268,12 @@ def folder_of(drawing: Drawing, room: str) -> Iterator[str]:
         os.unlink(file)
 
 
-def warm(room: str) -> None:
-    """Begins ezdxf, where it is there, and draws a small sheet: what is in use by then each fork has, and needn't begin for itself."""
-    ends = [((0, 0), (10, 0)), ((0, 10), (10, 10)), ((0, 0), (0, 10)), ((10, 0), (10, 10))]
-    views = {view: [(False, (a + x, b + y), (c + x, d + y)) for (a, b), (c, d) in ends] for view, (x, y) in places_of(10, 10, 10, 10).items()
-             if view in VIEWS}
-    file = os.path.join(room, "cube.dxf")
-    pathlib.Path(file).write_text(written(views, 0))
-    with contextlib.suppress(Refused):
-        for _ in range(WARM):
-            sheet.draw(file, options().parse_args(["--all-visible"]), noted.tell_none)
-    os.unlink(file)
-
-
 def rows_of(lines: list[bytes], room: str) -> Generator[Row, None, None]:
     arguments = options().parse_args(json.loads(lines[0])["words"])
     if not arguments.as_is:
-        warm(room)
+        # What is begun here each worker has, and needn't begin for itself.
+        with contextlib.suppress(Refused):
+            reading.library()
     # What is there by now needn't be looked at, and so copied, by a worker that collects what a drawing left.
     gc.freeze()
     with contextlib.closing(Workers(arguments)) as workers:

@@ -156,15 +156,14 @@ def inserted(what: str) -> Thing:
 # ---- the file
 
 def library() -> Any:
-    """ezdxf, with what reads broken files. Where matplotlib is there, ezdxf asks it for the widths of letters alone, and it takes as long to begin
+    """ezdxf. Where matplotlib is there, ezdxf asks it for the widths of letters alone, and it takes as long to begin
     and as much memory as ezdxf itself: so it isn't seen meanwhile."""
     hides = "matplotlib" not in sys.modules
     if hides:
         sys.modules["matplotlib"] = None  # type: ignore[assignment]
     try:
         import ezdxf
-        from ezdxf import recover
-        return ezdxf, recover
+        return ezdxf
     except ImportError:
         raise Refused("ezdxf isn't there: apt-get install python3-ezdxf") from None
     finally:
@@ -174,7 +173,7 @@ def library() -> Any:
 
 def opened(path: str) -> tuple[Any, str]:
     """The document of a file, and what had to be mended in it."""
-    ezdxf, recover = library()
+    ezdxf = library()
     data = dxf_of(path)
     version = None if data.startswith(BINARY) else version_needed(data)
     if version is None:
@@ -184,6 +183,7 @@ def opened(path: str) -> tuple[Any, str]:
             raise
         except Exception:  # ezdxf's own errors, and whatever a broken file makes it stumble on
             pass
+    from ezdxf import recover  # which few files need
     try:
         document, auditor = recover.readfile(path) if version is None else recover.read(io.BytesIO(version))
     except Exception as failure:
@@ -232,10 +232,12 @@ def check_lines(path: str, document: Any) -> None:
             vertices = sum(code == 10 for code, _ in entry.pairs)
             told[entry.name, entry.values.get(8, "0").upper(), entry.values.get(6, "BYLAYER").upper(), vertices, closed] += 1
     read: Counter[tuple[str, str, str, int, bool]] = Counter()
-    for entity in document.modelspace().query("LINE LWPOLYLINE"):
-        is_line = entity.dxftype() == "LINE"
-        read[entity.dxftype(), entity.dxf.layer.upper(), entity.dxf.get("linetype", "BYLAYER").upper(),
-             1 if is_line else len(entity), not is_line and bool(entity.closed)] += 1
+    for entity in document.modelspace():
+        kind = entity.dxftype()
+        if kind in ("LINE", "LWPOLYLINE"):
+            is_line = kind == "LINE"
+            read[kind, entity.dxf.layer.upper(), entity.dxf.get("linetype", "BYLAYER").upper(), 1 if is_line else len(entity),
+                 not is_line and bool(entity.closed)] += 1
     if told != read:
         if not re.search(rb"^[ \t]*0[ \t\r]*\n[ \t]*EOF", pathlib.Path(path).read_bytes(), re.M | re.I):
             raise Refused(f"{pathlib.Path(path).name} is cut, it ends without an end: export it again")

@@ -13,7 +13,7 @@ from fractions import Fraction
 from typing import Any, NamedTuple
 
 from . import __version__, faults, files, program
-from .answers import CUT, WHOLE, Face, Solid, answer_of, sizes_of
+from .answers import CUT, WHOLE, Answer, Face, Solid, sizes_of
 from .asking import Asked
 from .kept import Kept
 from .messages import Refused
@@ -83,12 +83,12 @@ class Listed(NamedTuple):
         return float(both[0]) + float(both[1]) * math.pi
 
 
-def listed_in(asked: Asked, most: int | None = None) -> list[Listed]:
-    """The solids of an answer in their order, no more than so many: of a drawing with rounds those that are kept."""
+def listed_in(asked: Asked, answer: Answer) -> list[Listed]:
+    """The solids that were read of an answer in their order: of a drawing with rounds those that are kept."""
     per_unit = asked.per_unit()
     if asked.rounds:
-        return [Listed(number, one.solid, per_unit, one) for number, one in enumerate(asked.kept[:most], 1)]
-    return [Listed(number, solid, per_unit) for number, solid in enumerate(asked.answer(most).solids, 1)]
+        return [Listed(number, one.solid, per_unit, one) for number, one in enumerate(asked.kept, 1)]
+    return [Listed(number, solid, per_unit) for number, solid in enumerate(answer.solids, 1)]
 
 
 def solid_record(one: Listed, times: Fraction, with_faces: bool) -> Record:
@@ -173,9 +173,9 @@ def outcome_of(head: str) -> str:
     return "whole" if WHOLE.fullmatch(head) else "cut" if CUT.fullmatch(head) else "fault"
 
 
-def count_of(asked: Asked) -> int:
+def count_of(asked: Asked, answer: Answer) -> int:
     """How many solids are listed."""
-    return len(asked.kept) if asked.rounds else answer_of(asked.run.text, 0).listed
+    return len(asked.kept) if asked.rounds else answer.listed
 
 
 def is_whole(asked: Asked) -> bool:
@@ -201,17 +201,17 @@ def head_record(arguments: argparse.Namespace, outcome: str) -> Record:
 
 def record(asked: Asked, arguments: argparse.Namespace, notes: Iterable[Note], most: int | None = None, with_faces: bool = True) -> Record:
     """What came of a drawing, of whose solids no more than so many are told."""
-    head = asked.run.text.partition("\n")[0]
-    outcome, told = outcome_of(head), head_record(arguments, outcome_of(head))
+    answer = asked.answer(most)
+    outcome = outcome_of(answer.head)
+    told, is_fault = head_record(arguments, outcome), outcome == "fault"
     told["drawing"]["read"] = "sheet" if asked.paper else "as_is"
-    is_fault = outcome == "fault"
-    listed = 0 if is_fault else count_of(asked)
+    listed = 0 if is_fault else count_of(asked, answer)
     return {
-        **told, "status": asked.run.status, "fault": fault_record(head, asked) if is_fault else None, "message": None,
-        "limits": limits_record(arguments, head),
+        **told, "status": asked.run.status, "fault": fault_record(answer.head, asked) if is_fault else None, "message": None,
+        "limits": limits_record(arguments, answer.head),
         "unit": {"name": asked.origin.unit or None, "per_unit": exact(asked.per_unit()), "mirrored": asked.origin.mirrored},
         "missing": asked.missing or None, "count": listed if is_whole(asked) else None, "listed": listed,
-        "solids": [] if is_fault else [solid_record(one, asked.origin.times, with_faces) for one in listed_in(asked, most)],
+        "solids": [] if is_fault else [solid_record(one, asked.origin.times, with_faces) for one in listed_in(asked, answer)[:most]],
         "rounds": rounds_record(asked), "notes": list(map(dataclasses.asdict, notes)), "seconds": round(asked.run.seconds, 3),
     }
 

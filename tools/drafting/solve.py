@@ -135,7 +135,7 @@ def answered(asked: asking.Asked, arguments: argparse.Namespace, listed: int) ->
         rows = rounded_told(asked, asked.rounds, listed) if asked.rounds else told(asked, listed)
         rows += left_open.told(asked, arguments)
         write_result("".join(f"{row}\n" for row in rows), None)
-    count = records.count_of(asked)
+    count = records.count_of(asked, asked.answer(0))
     if asked.missing and count > 1:
         say(f"draft solve: warning: the two views are ambiguous: {asked.missing} isn't drawn, and one solid alone is the part; {command('settle')} says "
             f"what {asked.missing} would show of each, and with {option('meant', 'K')} completes the drawing")

@@ -139,7 +139,7 @@ class Answer:
         """The drawing's unit of length, as `mm`; None where it tells none."""
         self.missing: str | None = told["missing"]
         """The main view that isn't drawn, where the other two are."""
-        self._solids = [Solid(self, one) for one in records.listed_in(asked)]
+        self._solids = [Solid(self, one) for one in records.listed_in(asked, asked.answer())]
 
     def __repr__(self) -> str:
         return f"<recon.Answer, {'whole' if self.is_whole else 'cut'}, {len(self)} solids>"
