@@ -4,6 +4,7 @@ import contextlib
 import json
 import os
 import pathlib
+import resource
 import subprocess
 import tempfile
 import time
@@ -47,8 +48,13 @@ def ask(name: str, arguments: argparse.Namespace, tell: object) -> None:
 
 
 class Spite(unittest.TestCase):
+    def setUp(self) -> None:
+        # The limit of a worker's memory, in MiB, has room above what it has from its start: what this process has, whatever was tested in it.
+        size = int(pathlib.Path("/proc/self/statm").read_text().split()[0]) * resource.getpagesize()
+        self.memory = (size >> 20) + 512
+
     def rows(self, *names: str, seconds: float = 60, grown: int = batch.GROWN) -> list[Row]:
-        arguments = batch.options().parse_args(["--seconds", str(seconds), "--memory", "512"])
+        arguments = batch.options().parse_args(["--seconds", str(seconds), "--memory", str(self.memory)])
         changed = mock.patch.multiple(batch, GRACE=0.2, GROWN=grown)
         with changed, mock.patch.object(asking, "ask", ask), contextlib.closing(batch.Workers(arguments)) as workers:
             return [workers.row(batch.Drawing(number, f"/tmp/{name}", 0, 0), "/tmp") for number, name in enumerate(names)]
@@ -61,7 +67,7 @@ class Spite(unittest.TestCase):
         self.assertEqual([(row["number"], row["status"]) for row in rows], [(0, "refused"), (1, "refused"), (2, "refused")])
 
     def test_a_drawing_costs_itself_alone(self) -> None:
-        told = {"abort": "reading it was ended by SIGABRT", "exit": "reading it ended with status 3", "bomb": "reading it took more than 512 MiB",
+        told = {"abort": "reading it was ended by SIGABRT", "exit": "reading it ended with status 3", "bomb": f"reading it took more than {self.memory:,} MiB",
                 "endless": "reading it took longer than 1 seconds", "leave": "reading it was ended by SIGABRT"}
         for name, message in told.items():
             before, spiteful, *behind = self.rows("a", name, "b", "c", seconds=1 if name == "endless" else 600)
@@ -79,6 +85,7 @@ class Spite(unittest.TestCase):
         self.assertEqual(left, b"")
 
     def test_a_worker_that_grew_is_replaced(self) -> None:
+        # Each message tells how many drawings the worker has read: what a drawing held is gone with its worker alone.
         self.assertEqual([row["message"].split()[1] for row in self.rows("hold", "b", grown=1 << 25)], ["2", "1"])
         self.assertEqual([row["message"].split()[1] for row in self.rows("hold", "b", grown=1 << 28)], ["2", "3"])
 
