@@ -9,7 +9,7 @@ from collections import Counter
 
 from drafting import page
 from drafting.blocks import Blocks, blocks_in
-from drafting.drawing import Origin, lines_of, lines_within, origin_of, passed_over, written
+from drafting.drawing import Origin, content_of, lines_of, lines_within, origin_of, passed_over, views_of, written
 from drafting.follow import Event, solids_event
 from drafting.messages import Refused
 
@@ -102,6 +102,18 @@ class Pages(unittest.TestCase):
         grid = voids(1)
         text = written(lines_of_runs(grid, runs(grid)), 1, Origin("mm"))
         self.assertEqual(origin_of(lines_within(text.encode())), Origin("mm"))
+
+    def test_comments_are_those_before_the_entities(self) -> None:
+        header = "999\na\n0\nSECTION\n2\nHEADER\n999\nb\n0\nENDSEC\n"
+        entities = "0\nSECTION\n2\nENTITIES\n999\nc\n0\nENDSEC\n0\nEOF\n"
+        for text, comments in ((header + entities, [(1, "a"), (7, "b")]), (header + "0\nEOF\n999\nd\n", [(1, "a"), (7, "b")]),
+                               ("999\na\nno code\nb\n" + header, [(1, "a")]), (entities, []), ("", [])):
+            self.assertEqual(content_of(lines_within(text.encode())).comments, comments)
+
+    def test_views_are_those_of_the_lines_that_are_asked_about(self) -> None:
+        large, small = drawing(rectangle("FRONT", 0, 0, 2)), drawing(rectangle("FRONT", 0, 0, 1))
+        for lines, reach in ((large, 2), (small, 1), (large, 2)):
+            self.assertEqual(max(line.end for line in views_of(lines)["FRONT"]), (reach, reach))
 
     def test_what_lies_within_the_views_and_is_not_read(self) -> None:
         lines = drawing(*CUBE, rectangle("HIDDEN", 1, 1, 1), rectangle("HIDDEN", 40, 40, 1), "0\nCIRCLE\n8\nHOLES\n10\n5\n20\n1\n40\n2.5\n",
