@@ -28,6 +28,12 @@ class Grid:
         """The place of the cell whose least corner this is."""
         return sum(rank[at] * stride for rank, at, stride in zip(self.ranks, corner, self.strides))
 
+    def layer(self, axis: int, at: int) -> int:
+        """All places of one number along an axis."""
+        stride, period = self.strides[axis], self.strides[axis] * len(self.cuts[axis])
+        rows = ((1 << self.count) - 1) // ((1 << period) - 1)
+        return ((1 << stride) - 1 << at * stride) * rows
+
     def between(self, solid: Solid, axis: int) -> int:
         """The cells between a solid's faces across an axis.
 

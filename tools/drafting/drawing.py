@@ -8,7 +8,7 @@ import functools
 import math
 import pathlib
 import re
-from collections import Counter
+from collections import Counter, defaultdict
 from collections.abc import Iterable, Iterator, Mapping, Sequence
 from decimal import Decimal
 from fractions import Fraction
@@ -24,6 +24,8 @@ CENTER = ("CENTER", "CENTER2", "CENTERX2")
 
 CODE = re.compile(r"-?[0-9]{1,4}")
 DECIMAL = re.compile(r"[-+]?(\d+\.?\d*|\.\d+)([eE][-+]?\d{1,3})?")
+# The layer of a section's lines, or of its area: the view, and where its plane lies.
+SECTION = re.compile(rf"(SECTION|AREA)_({'|'.join((*VIEWS, *FURTHER))})_({DECIMAL.pattern})", re.I | re.A)
 # The entries of a file of more lines aren't held, nor the lines of one of more bytes.
 MOST_HELD, MOST_BYTES_HELD = 400_000, 4_000_000
 
@@ -124,8 +126,13 @@ class Content:
         return list(entries_within(self.lines, self.codes))
 
     @functools.cached_property
+    def layers(self) -> Views:
+        """The lines that can be read of each layer that recon knows and that has some, by its name in capitals."""
+        return lines_by_layer(entries_of(self.lines))
+
+    @functools.cached_property
     def views(self) -> Views:
-        return views_within(entries_of(self.lines))
+        return {view: self.layers.get(view, []) for view in (*VIEWS, *FURTHER) if view in self.layers or view in VIEWS}
 
     @functools.cached_property
     def comments(self) -> list[tuple[int, str]]:
@@ -211,21 +218,32 @@ def views_of(lines: list[str]) -> Views:
     return content_of(lines).views
 
 
-def views_within(entries: Iterable[Entry]) -> dict[str, list[Line]]:
-    layers: dict[str, str] = {}
-    views: dict[str, list[Line]] = {view: [] for view in (*VIEWS, *FURTHER)}
+def sections_drawn(lines: list[str]) -> Views:
+    """The lines that can be read of each layer of a section that has some, by its name in capitals."""
+    return {layer: its for layer, its in content_of(lines).layers.items() if is_of_section(layer)}
+
+
+def lines_by_layer(entries: Iterable[Entry]) -> dict[str, list[Line]]:
+    linetypes: dict[str, str] = {}
+    found: dict[str, list[Line]] = defaultdict(list)
     for entry in entries:
         layer = entry.values.get(8, "").upper()
         if entry.section == "TABLES" and entry.name == "LAYER":
-            layers.setdefault(entry.values.get(2, "").upper(), entry.values.get(6, "").upper())
-        elif entry.section == "ENTITIES" and entry.name in DRAWN and layer in views and entry.values.get(67) != "1":
+            linetypes.setdefault(entry.values.get(2, "").upper(), entry.values.get(6, "").upper())
+        elif entry.section == "ENTITIES" and entry.name in DRAWN and is_known(layer) and entry.values.get(67) != "1":
             linetype = entry.values.get(6, "BYLAYER").upper()
-            linetype = layers.get(layer, "") if linetype == "BYLAYER" else linetype
-            if linetype not in CENTER:
+            linetype = linetypes.get(layer, "") if linetype == "BYLAYER" else linetype
+            if linetype not in CENTER and (sides := sides_of(entry)):
                 told = entry.first, entry.last
                 known = linetype in ("", *VISIBLE, *DASHED)
-                views[layer] += [Line(linetype in DASHED, *ends, told, known) for ends in sides_of(entry)]
-    return {view: its for view, its in views.items() if its or view in VIEWS}
+                found[layer] += [Line(linetype in DASHED, *ends, told, known) for ends in sides]
+    return found
+
+
+@functools.lru_cache(maxsize=2048)
+def is_of_section(layer: str) -> bool:
+    """Whether a layer names a section."""
+    return SECTION.fullmatch(layer) is not None
 
 
 def missing_in(views: Mapping[str, Sequence[object]]) -> str:
@@ -249,10 +267,15 @@ def places_of(width: int, depth: int, height: int, gap: int) -> dict[str, tuple[
 
 def strokes_in(lines: list[str], decimals: int) -> dict[str, list[Stroke]]:
     """The strokes of a drawing that recon takes with so many decimals, in units of its last one."""
+    return strokes_in_units(views_of(lines), decimals)
+
+
+def strokes_in_units(layers: Mapping[str, Iterable[Line]], decimals: int) -> dict[str, list[Stroke]]:
+    """Lines as strokes, in units of the last of so many decimals."""
     def units(place: Place) -> tuple[int, int]:
         return round(place[0] * 10**decimals), round(place[1] * 10**decimals)
 
-    return {view: [(line.dashed, units(line.start), units(line.end)) for line in its] for view, its in views_of(lines).items()}
+    return {layer: [(line.dashed, units(line.start), units(line.end)) for line in its] for layer, its in layers.items()}
 
 
 def up_to_end(data: bytes) -> bytes:
@@ -261,16 +284,30 @@ def up_to_end(data: bytes) -> bytes:
     return b"\n".join(data.split(b"\n")[:last + 3]) + b"\n"
 
 
-def decimals_of(lines: list[str]) -> int:
-    """With how many decimals, at most 6, recon reads the lines of the views."""
-    most = 0
+def decimals_of(lines: list[str], with_sections: bool = False) -> int:
+    """With how many decimals, at most 6, recon reads the lines of the views, and where they are read those of sections and their planes."""
+    most, planes = 0, set[str]()
     for entry in entries_of(lines):
-        if entry.section == "ENTITIES" and entry.name in DRAWN and entry.values.get(8, "").upper() in (*VIEWS, *FURTHER):
-            for code, value in entry.pairs:
-                if code in (10, 20, 11, 21) and not value.isdigit() and DECIMAL.fullmatch(value):
-                    exponent = Decimal(value).normalize().as_tuple().exponent
-                    most = max(most, -exponent if isinstance(exponent, int) else 0)
-    return min(most, 6)
+        layer = entry.values.get(8, "").upper()
+        is_read = layer in (*VIEWS, *FURTHER) or with_sections and is_of_section(layer)
+        if entry.section == "ENTITIES" and entry.name in DRAWN and is_read:
+            planes |= {layer.rpartition("_")[2]}
+            most = max(most, *(places_in(value) for code, value in entry.pairs if code in (10, 20, 11, 21)), 0)
+    return min(max(most, *map(places_in, planes), 0), 6)
+
+
+@functools.lru_cache(maxsize=2048)
+def places_in(value: str) -> int:
+    """How many decimals a numeral has; none of what is no numeral."""
+    if value.isdigit() or not DECIMAL.fullmatch(value):
+        return 0
+    exponent = Decimal(value).normalize().as_tuple().exponent
+    return -exponent if isinstance(exponent, int) else 0
+
+
+def is_known(layer: str) -> bool:
+    """Whether recon knows a layer, as that of a view or of a section, which it reads where it is asked to."""
+    return layer.upper() in (*VIEWS, *FURTHER) or is_of_section(layer)
 
 
 # What is passed over on other layers and could be meant as a part of a view.
@@ -279,7 +316,7 @@ MEANT = (*DRAWN, "POLYLINE", "ARC", "CIRCLE", "ELLIPSE", "SPLINE", "INSERT", "SO
 
 def passed_over(lines: list[str]) -> Counter[tuple[str, str]]:
     """How many lines, curves and inserts, by layer and kind, lie within the boxes of the views and aren't read, since they are on other
-    layers."""
+    layers. Those of sections are no part of a view, wherever they lie."""
     boxes = []
     for its in views_of(lines).values():
         points = [point for line in its for point in (line.start, line.end)]
@@ -289,7 +326,7 @@ def passed_over(lines: list[str]) -> Counter[tuple[str, str]]:
     counts: Counter[tuple[str, str]] = Counter()
     for entry in entries_of(lines):
         layer = entry.values.get(8, "0")
-        unread = entry.name in MEANT and layer.upper() not in (*VIEWS, *FURTHER) and entry.values.get(67) != "1"
+        unread = entry.name in MEANT and not is_known(layer) and entry.values.get(67) != "1"
         if entry.section == "ENTITIES" and unread and any(touches(entry, box) for box in boxes):
             counts[layer, entry.name] += 1
     return counts

@@ -325,11 +325,12 @@ def shown_by(strokes: Iterable[Stroke]) -> Shown:
     return moved_runs((*row, row_of(its, cuts[row]), cuts[row]) for row, its in rows.items())
 
 
-def shown_of(cells: Iterable[Cell], cuts: Cuts, view: str) -> Shown:
-    """What a view shows of a solid, in grid cells between some cuts."""
+def shown_of(cells: Iterable[Cell], cuts: Cuts, view: str, with_hidden: bool = True) -> Shown:
+    """What a view shows of a solid, in grid cells between some cuts; or its visible edges alone."""
     rights, ups = cuts_in(view, cuts)
+    hidden, instead = bytes([DASHED]), bytes([DASHED if with_hidden else BLANK])
     return moved_runs(
-        (row.upright, (rights if row.upright else ups)[row.number], styles, ups if row.upright else rights)
+        (row.upright, (rights if row.upright else ups)[row.number], styles.replace(hidden, instead), ups if row.upright else rights)
         for row, styles in panels_of(cells, [len(cut) - 1 for cut in cuts], view).items()
     )
 
