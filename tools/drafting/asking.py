@@ -19,9 +19,12 @@ from .pairs import TwoReadings
 from .panels import Sheet, sheet_of
 from .paper import Paper
 from .reading import Unreadable
+from .section_layers import layers_in
 
 # What recon passes over and a sheet is compared with: its sizes, and which views are sections.
 TELLING = ("DIMENSION", "HATCH")
+# The program's commands that read sections.
+READ_SECTIONS = ("solve", "redraw", "stl", "check")
 # Faults of a drawing of three layers which `draft sheet` may get round.
 SHEETS = ("Binary", "NotWhole", "Linetype", "Geometry", "EmptyView", "TooManyLines", "TooLong")
 
@@ -112,6 +115,7 @@ def add_reading(parser: argparse.ArgumentParser) -> None:
     """The options that say how a file is read, and by which program."""
     parser.add_argument("--as-is", action="store_true", help="the program reads the file as it is, and no sheet is drawn for it")
     parser.add_argument("--decimals", type=int, choices=range(7), help="how many decimals the file is read with as it is (else found)")
+    parser.add_argument("--sections", action="store_true", help="sections are read, on layers as SECTION_FRONT_12 and AREA_FRONT_12")
     parser.add_argument("--all-readings", action="store_true", help="of a sheet whose lines may be tangent edges all readings are tried")
     parser.add_argument("--reading-seconds", type=float, default=answering.SECONDS, metavar="SECONDS",
                         help=f"for so long readings are tried (else {answering.SECONDS:g}); what was left is told")
@@ -144,7 +148,7 @@ def ask(path: str | None, arguments: argparse.Namespace, tell: Tell, command: tu
     documents.check_options(arguments, False)
     data = pathlib.Path(path).read_bytes()
     lines = lines_within(data)
-    decimals = decimals_of(lines) if arguments.decimals is None else arguments.decimals
+    decimals = decimals_in(lines, arguments)
     is_sheet = not arguments.as_is and (is_said_of_sheet(arguments) or not is_plain(lines))
     given = given_in(lines)
     if given and (is_sheet or arguments.as_is):
@@ -153,14 +157,14 @@ def ask(path: str | None, arguments: argparse.Namespace, tell: Tell, command: tu
         given = None
     if is_sheet and (asked := of_readable_sheet(path, lines, arguments, tell, command)) is not None:
         return asked
-    words = [*command, *views_words(lines), *decimals_words(command, decimals), *words_of(arguments)]
+    words = [*command, *views_words(lines), *sections_words(command, arguments), *decimals_words(command, decimals), *words_of(arguments)]
     run = program.run(program.find(arguments.program), words, data, arguments.seconds)
     fault = faults.name_of(run.text.strip())
     if fault in SHEETS and not is_sheet and not arguments.as_is:
         tell(noted.found(f"recon doesn't take the file as it is: {run.text.strip()}"))
         if (asked := of_readable_sheet(path, lines, arguments, tell, command)) is not None:
             return asked
-    for note in passed_over_told(lines):
+    for note in passed_over_told(lines, arguments.sections):
         tell(note)
     if not fault:
         tell(noted.found(f"recon reads the file as it is, with {option('decimals', str(decimals))}"))
@@ -185,7 +189,7 @@ def is_plain(lines: list[str]) -> bool:
 def ask_all(arguments: argparse.Namespace) -> answering.Asker:
     """Asks for all solids of a squared-off drawing."""
     def ask_one(data: bytes, decimals: int) -> program.Run:
-        words = ["solve", *decimals_words(("solve",), decimals), *limits_of(arguments)]
+        words = ["solve", *sections_words(("solve",), arguments), *decimals_words(("solve",), decimals), *limits_of(arguments)]
         return program.run(program.find(arguments.program), words, data, arguments.seconds)
 
     return ask_one
@@ -207,14 +211,27 @@ def views_words(lines: list[str]) -> list[object]:
     return [program.TWO_VIEWS] if missing_in(views_of(lines)) else []
 
 
+def sections_words(command: tuple[object, ...], arguments: argparse.Namespace) -> list[object]:
+    """What the program is given where sections are to be read, by those of its commands that read them."""
+    return [program.SECTIONS] if arguments.sections and command[0] in READ_SECTIONS else []
+
+
+def decimals_in(lines: list[str], arguments: argparse.Namespace) -> int:
+    """With how many decimals a file is read: those that are said, else what it has."""
+    return decimals_of(lines, arguments.sections) if arguments.decimals is None else int(arguments.decimals)
+
+
 def decimals_words(command: tuple[object, ...], decimals: int) -> list[object]:
     return ["--decimals", decimals] if decimals and command[0] != "stl" else []
 
 
-def passed_over_told(lines: list[str]) -> list[Note]:
-    """What lies within the views and isn't read."""
+def passed_over_told(lines: list[str], with_sections: bool = False) -> list[Note]:
+    """What lies within the views and isn't read, and sections where they aren't."""
+    unread = [] if with_sections else layers_in(lines)
+    sections = [noted.warning(f"{' and '.join(unread)} {'was' if len(unread) == 1 else 'were'} not read: {option('sections')} has sections read")]
     return [Note("warning", f"{count} {kind} on layer {layer} {'lies' if count == 1 else 'lie'} within the views and "
-                 f"{'was' if count == 1 else 'were'} not read", count, layer=layer, entity=kind) for (layer, kind), count in passed_over(lines).items()]
+                 f"{'was' if count == 1 else 'were'} not read", count, layer=layer, entity=kind)
+            for (layer, kind), count in passed_over(lines).items()] + (sections if unread else [])
 
 
 def of_readable_sheet(path: str, lines: list[str], arguments: argparse.Namespace, tell: Tell, command: tuple[object, ...]) -> Asked | None:
@@ -266,8 +283,7 @@ def is_taken(path: str, arguments: argparse.Namespace) -> bool:
     lines = [] if documents.is_document(path) else lines_of(path)
     if not any(views_of(lines).values()):
         return False
-    decimals = decimals_of(lines) if arguments.decimals is None else arguments.decimals
-    words = ["solve", *views_words(lines), *decimals_words(("solve",), decimals), "--nodes", 1, "--solids", 1]
+    words = ["solve", *views_words(lines), *decimals_words(("solve",), decimals_in(lines, arguments)), "--nodes", 1, "--solids", 1]
     run = program.run(program.find(arguments.program), words, pathlib.Path(path).read_bytes(), arguments.seconds)
     return not faults.name_of(run.text.strip())
 
@@ -291,6 +307,6 @@ def of_sheet(path: str | None, arguments: argparse.Namespace, tell: Tell, comman
         tell(note)
     data = drawn.text.encode()
     lines = lines_within(data)
-    words = [*command, *views_words(lines), *decimals_words(command, drawn.decimals), *words_of(arguments)]
+    words = [*command, *views_words(lines), *sections_words(command, arguments), *decimals_words(command, drawn.decimals), *words_of(arguments)]
     run = program.run(program.find(arguments.program), words, data, arguments.seconds)
     return Asked(data, lines, drawn.decimals, drawn.origin, run, drawn.paper, rounds, drawn.page)

@@ -1,6 +1,7 @@
 """Sees whether a log shows that the solids it lists are all that have the views of a drawing or a sheet, whoever wrote it, without a
 search: it has recon's `check` read the drawing, or what `draft sheet` draws of it, with the log behind it. Standard output says yes, and
-how many solids there are. Else the status is 9, and standard error says which line of the log is the first that is wrong, and why.
+how many solids there are; with --sections also which of them show further views and sections, by their choices. Else the status is 9, and
+standard error says which line of the log is the first that is wrong, and why.
 """
 import argparse
 import pathlib
@@ -11,6 +12,7 @@ from . import asking, blocks, program, prove
 from .given import given_in
 from .messages import Refused, many, say, write_result
 from .panels import Cuts, Row, Sheet, axis_of
+from .section_layers import layer_of, shown_in
 
 NAME = "check"
 HELP = "see whether a log shows that the solids it lists are all"
@@ -79,19 +81,28 @@ def run(arguments: argparse.Namespace) -> int:
     asked, data = prove.whole_drawing(arguments, lambda note: say(f"draft check: {note}"))
     if len(data) + len(log) > MOST_BYTES:
         raise Refused(f"the drawing and its log have {len(data) + len(log):,} bytes, more than {MOST_BYTES:,}")
-    judged = program.run(program.find(arguments.program), ["check", *asking.views_words(asked.lines)], data + log, arguments.seconds)
-    head = judged.text.partition("\n")[0]
+    words = ["check", *asking.views_words(asked.lines), *asking.sections_words(("check",), arguments)]
+    judged = program.run(program.find(arguments.program), words, data + log, arguments.seconds)
+    head, _, choices = judged.text.partition("\n")
     if judged.status == program.NO_LOG:
         grid = blocks.of(arguments, asked.data, asked.lines, asked.decimals).grid
         for text in told(head, log, asked, grid.cuts):
             say(f"draft check: {text}")
         return program.NO_LOG
-    yes = re.fullmatch(r"yes (\d+)", head)
+    yes = re.fullmatch(r"yes (?:(\d+) of )?(\d+)", head)
     if judged.status != program.WHOLE or not yes:
         raise Refused(f"recon says neither yes nor what is wrong: {head[:80]}")
-    count, views = int(yes[1]), "these two views" if asked.missing else "these views"
+    count, views = int(yes[2]), "these two views" if asked.missing else "these views"
     given = given_in(asked.lines)
     views += f", its {given.kinds} squared off" if given else ""
+    more = fitting_told(asked, yes[1], choices) if yes[1] and count else ""
     write_result({0: f"Yes: no solid has {views}.\n", 1: f"Yes: one solid has {views}, and no other.\n"}.get(
-        count, f"Yes: {many(count, 'solid')} have {views}, and no others.\n"), None)
+        count, f"Yes: {many(count, 'solid')} have {views}, and no others.\n") + more, None)
     return program.WHOLE
+
+
+def fitting_told(asked: asking.Asked, count: str, choices: str) -> str:
+    """How many of the listed solids show the further views and sections too, and their choices."""
+    further = [layer_of(it, asked.decimals) for it in shown_in(asked.lines, asked.decimals, True)]
+    shows = "shows" if count == "1" else "show"
+    return f"Of these {'none' if count == '0' else count} {shows} {' and '.join(further)} too.\n{choices}" if further else ""

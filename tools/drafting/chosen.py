@@ -19,7 +19,8 @@ from .clean import GAP
 from .drawing import places_of, views_of, written
 from .judge import Drawing, solid_cells
 from .messages import Refused, say, write_result
-from .panels import further_of, grid_of, sheet_of, shown_of, strokes_shown
+from .panels import grid_of, sheet_of, shown_of, strokes_shown
+from .section_layers import shown_in
 
 NAME = "chosen"
 HELP = "save a solid that is told by its choice, of a search that was cut"
@@ -50,9 +51,9 @@ def chosen_by(arguments: argparse.Namespace) -> Chosen:
     asked = blocks.ask(arguments, lambda note: say(f"draft chosen: {note}"))
     if FAULT.fullmatch(head := asked.run.text.partition("\n")[0]):
         raise Refused("; ".join(faults.told(head, asked.lines)))
-    views = views_of(asked.lines)
-    sheet = sheet_of(views, asked.decimals)
-    its, drawing = blocks.blocks_in(asked.run.text), Drawing(grid_of(sheet), further_of(views, asked.decimals))
+    sheet = sheet_of(views_of(asked.lines), asked.decimals)
+    further = shown_in(asked.lines, asked.decimals, arguments.sections)
+    its, drawing = blocks.blocks_in(asked.run.text), Drawing(grid_of(sheet), further)
     if set(arguments.choice) - set("01") or not drawing.shows(solid_cells(its.grid, its.full(arguments.choice), drawing.grid)):
         raise Refused("the solid of this choice hasn't the views of the drawing")
     return Chosen(asked, its, arguments.choice)

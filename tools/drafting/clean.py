@@ -1,15 +1,17 @@
 """Draws a drawing, or a sheet, anew: the drawing of one of its solids as recon writes it, one line for each edge, and with a table of
 linetypes and layers, which recon leaves out and other programs ask for before they draw HIDDEN dashed. It is read back here, line by
-line, from what the program writes. recon writes the three main views; further ones, which the solid fits, are those of the drawing.
+line, from what the program writes. recon writes the three main views; further ones and sections, which the solid fits, are those of the
+drawing.
 """
 import argparse
 
 from . import asking, faults, program
 from .controls import option
-from .drawing import Stroke, lines_within, places_of, strokes_in, views_of, written
+from .drawing import Stroke, lines_within, places_of, strokes_in, written
 from .messages import Refused, many, say, write_result
 from .noted import Tell
-from .panels import further_of, strokes_shown
+from .panels import strokes_shown
+from .section_layers import Layer, Section, layer_of, shown_in
 
 NAME = "clean"
 HELP = "draw a drawing or a sheet anew, one line for each edge"
@@ -41,23 +43,29 @@ def redrawn(arguments: argparse.Namespace, say_it: Tell) -> asking.Asked:
 GAP = 10
 
 
-def with_further(asked: asking.Asked) -> dict[str, list[Stroke]]:
-    """The strokes of the drawing that recon redraws, and beside them those of the further views, a line for each run."""
+def with_further(asked: asking.Asked, with_sections: bool) -> dict[str, list[Stroke]]:
+    """The strokes of the drawing that recon redraws, and beside them those of the further views and below them those of the sections, a line
+    for each run."""
     strokes = strokes_in(lines_within(asked.run.text.encode()), asked.decimals)
-    further = further_of(views_of(asked.lines), asked.decimals)
+    further = shown_in(asked.lines, asked.decimals, with_sections)
     (width, height), (_, depth) = (
         (max(end[axis] for _, *ends in strokes[view] for end in ends) - min(end[axis] for _, *ends in strokes[view] for end in ends)
          for axis in (0, 1)) for view in ("FRONT", "TOP")
     )
-    places = places_of(width, depth, height, GAP)
-    return {**strokes, **{view: strokes_shown(shown, *places[view]) for view, shown in further.items()}}
+    places: dict[Layer, tuple[int, int]] = dict(places_of(width, depth, height, GAP).items())
+    right, low = 0, -2 * (depth + GAP) - height
+    for layer in further:
+        if isinstance(layer, Section):
+            places[layer] = right, low
+            right += max(width, depth) + GAP
+    return {**strokes, **{layer_of(layer, asked.decimals): strokes_shown(shown, *places[layer]) for layer, shown in further.items()}}
 
 
 def run(arguments: argparse.Namespace) -> int:
     asked = redrawn(arguments, lambda note: say(f"draft clean: {note}"))
     if asked.rounds:
         raise Refused("a sheet with rounds or chamfers isn't drawn anew: `draft sheet` writes it squared off")
-    strokes = with_further(asked)
+    strokes = with_further(asked, arguments.sections)
     say(f"draft clean: {many(sum(map(len, strokes.values())), 'line')}, read with {option('decimals', str(asked.decimals))}")
     write_result(written(strokes, asked.decimals, asked.origin), arguments.output)
     return 0

@@ -4,7 +4,7 @@ from collections import Counter
 
 from .answers import FAULT
 from .controls import command, option
-from .drawing import DRAWN, FURTHER, MEANT, VIEWS, Entry, entries_of
+from .drawing import DRAWN, FURTHER, MEANT, VIEWS, Entry, entries_of, is_known
 from .placing import view_named
 from .reading import Source
 
@@ -103,13 +103,12 @@ def is_of_the_main_layers(lines: list[str]) -> bool:
     """Whether the file has lines on each of the three layers; or on some of them and nothing drawn on others, as where it is cut or has two
     views."""
     layers = {layer.upper() for layer in layers_with_lines(lines)}
-    return set(VIEWS) <= layers or bool(layers) and layers <= {*VIEWS, *FURTHER} and not any(
-        entry.section == "ENTITIES" and entry.name in MEANT and entry.values.get(8, "0").upper() not in (*VIEWS, *FURTHER)
-        for entry in entries_of(lines)
+    return set(VIEWS) <= layers or bool(layers) and all(map(is_known, layers)) and not any(
+        entry.section == "ENTITIES" and entry.name in MEANT and not is_known(entry.values.get(8, "0")) for entry in entries_of(lines)
     )
 
 
 def names_other_layers(lines: list[str]) -> bool:
     """Whether lines are on a layer that names a further view otherwise than recon does, as BACK or LEFT_VIEW."""
-    layers = {layer.upper() for layer in layers_with_lines(lines)}
-    return any(view_named(Source("LINE", layer, "")) in FURTHER for layer in layers - set(FURTHER))
+    layers = {layer for layer in layers_with_lines(lines) if not is_known(layer)}
+    return any(view_named(Source("LINE", layer, "")) in FURTHER for layer in layers)

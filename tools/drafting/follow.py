@@ -188,7 +188,8 @@ class Search:
         """Searches a drawing of three layers that has no fault, as it is: its views, its solids page by page, how it ended, and what would
         settle it."""
         self.lines, self.decimals, self.blocks = lines_within(data), decimals, its
-        words = ["solve", *asking.views_words(self.lines), *asking.decimals_words(("solve",), decimals), *asking.words_of(arguments), "--pages"]
+        words = ["solve", *asking.views_words(self.lines), *asking.sections_words(("solve",), arguments),
+                 *asking.decimals_words(("solve",), decimals), *asking.words_of(arguments), "--pages"]
         yield from self.searched(program.find(arguments.program), list(map(str, words)), data, arguments.seconds)
         if len(self.shown) > 1:
             self.unlooked = lambda why: unmeant(f"What would settle it wasn't looked for to its end, {why}.")

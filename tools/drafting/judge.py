@@ -22,7 +22,8 @@ from .controls import option
 from .drawing import decimals_of, lines_within, views_of
 from .given import given_in
 from .messages import Progress, Refused, many, say, write_result
-from .panels import Cell, Grid, Shown, further_of, grid_of, panels_of, sheet_of, shown_of
+from .panels import Cell, Grid, Shown, grid_of, panels_of, sheet_of
+from .section_layers import Layer, shown_in, shown_of_layer
 
 NAME = "judge"
 HELP = "check an answer by another program, clingo, from other words"
@@ -75,14 +76,14 @@ def solids_of(answer: Answer, grid: Grid) -> Iterator[tuple[int, Solid | Refused
 
 
 class Drawing(NamedTuple):
-    """A drawing: its main views on their grid, and what each further view shows that it has."""
+    """A drawing: its main views on their grid, and what each further view and each section shows that it has."""
 
     grid: Grid
-    further: dict[str, Shown]
+    further: dict[Layer, Shown]
 
     def fits(self, solid: Solid) -> bool:
-        """Whether a solid, drawn by the definitions, has the further views."""
-        return all(shown_of(solid, self.grid.cuts, view) == shown for view, shown in self.further.items())
+        """Whether a solid, drawn by the definitions, has the further views and the sections."""
+        return all(shown_of_layer(solid, self.grid.cuts, layer) == shown for layer, shown in self.further.items())
 
     def shows(self, solid: Solid) -> bool:
         """Whether a solid, drawn by the definitions, has all views."""
@@ -172,7 +173,7 @@ def run(arguments: argparse.Namespace) -> int:
         answer = answer_of(text_of(arguments.answer))
         data = pathlib.Path(arguments.drawing).read_bytes()
         lines = lines_within(data)
-        decimals = answer.decimals if answer.solids else decimals_of(lines)
+        decimals = answer.decimals if answer.solids else decimals_of(lines, arguments.sections)
     else:
         asked = asking.ask(arguments.drawing, arguments, lambda note: say(f"draft judge: {note}"))
         answer, data, lines, decimals = answer_of(asked.run.text), asked.data, asked.lines, asked.decimals
@@ -180,8 +181,7 @@ def run(arguments: argparse.Namespace) -> int:
         say(f"draft judge: what is judged are the solids of the drawing with its {given.kinds} squared off")
     if FAULT.fullmatch(answer.head):
         raise Refused(f"a fault isn't judged: {answer.head}")
-    views = views_of(lines)
-    drawing = Drawing(grid_of(sheet_of(views, decimals)), further_of(views, decimals))
+    drawing = Drawing(grid_of(sheet_of(views_of(lines), decimals)), shown_in(lines, decimals, arguments.sections))
     its = blocks.of(arguments, data, lines, decimals)
     write_result(judged(answer, drawing, its, arguments.most, arguments.search) + "\n", None)
     return 0

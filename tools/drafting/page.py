@@ -131,13 +131,13 @@ def rounds_of(lines: list[str], text: str, units: Units) -> answering.Readings |
     return answering.of_drawing(drawn, given, lambda *_: program.Run(program.WHOLE, text, 0.0)) if given else None
 
 
-def answer_told(lines: list[str], text: str, its: Blocks | None) -> Events:
+def answer_told(lines: list[str], text: str, its: Blocks | None, with_sections: bool = False) -> Events:
     """An answer that is given, as it would be told while the program runs; of one with solids also where the drawing's blocks are."""
     answer = answer_of(text)
     head = answer.head
-    units = Units(answer.decimals if answer.solids else decimals_of(lines), origin_of(lines))
+    units = Units(answer.decimals if answer.solids else decimals_of(lines, with_sections), origin_of(lines))
     views = views_of(lines)
-    yield from map(follow.said, asking.passed_over_told(lines))
+    yield from map(follow.said, asking.passed_over_told(lines, with_sections))
     if units.origin.mirrored:
         yield follow.said(follow.MIRRORED)
     if not any(views.values()) and not FAULT.fullmatch(head):
@@ -188,7 +188,7 @@ def events_of(arguments: argparse.Namespace) -> Iterator[Event]:
         return told_by_program(arguments)
     data, text = reading.dxf_of(arguments.drawing), text_of(arguments.answer)
     lines, answer = lines_within(data), answer_of(text)
-    return answer_told(lines, text, blocks.of(arguments, data, lines, answer.decimals) if answer.solids else None)
+    return answer_told(lines, text, blocks.of(arguments, data, lines, answer.decimals) if answer.solids else None, arguments.sections)
 
 
 def add_arguments(parser: argparse.ArgumentParser) -> None:

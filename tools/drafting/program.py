@@ -22,6 +22,8 @@ SECONDS = 3600.0
 WHOLE, FAULT, USAGE, CUT_NODES, CUT_SOLIDS, NO_INPUT, NO_OUTPUT, NO_MEMORY, NO_SUCH_SOLID, NO_LOG = range(10)
 # What it is given where one of the main views isn't drawn.
 TWO_VIEWS = "--two-views"
+# What it is given where it is to read sections.
+SECTIONS = "--sections"
 # The greatest values that its options take.
 MOST_NODES, MOST_SOLIDS, MOST_WORKERS, MOST_DECIMALS = 4_000_000, 65_536, 64, 6
 

@@ -9,11 +9,12 @@ import pathlib
 
 from . import asking, faults, noted, program
 from .answers import CUT
-from .controls import option
-from .drawing import further_in, lines_within, strokes_in, up_to_end, written
+from .controls import command, option
+from .drawing import lines_within, up_to_end, written
 from .given import comments as given_comments, given_in, times
 from .messages import Refused, many, say, write_result
 from .noted import Tell
+from .section_layers import layer_of, shown_in, strokes_in_all
 
 NAME = "prove"
 HELP = "write a log by which others see that the solids listed are all"
@@ -33,8 +34,12 @@ def whole_drawing(arguments: argparse.Namespace, tell: Tell) -> tuple[asking.Ask
     asked = asking.ask(arguments.drawing, least, tell)
     if asked.run.status == program.FAULT:
         raise Refused("; ".join(faults.told(asked.run.text.strip(), asked.lines)))
-    if further := further_in(asked.lines):
-        tell(noted.warning(f"logs are of the {'two' if asked.missing else 'three'} main views: what {' and '.join(further)} would rule out isn't asked"))
+    main = f"logs are of the {'two' if asked.missing else 'three'} main views: "
+    further = [layer_of(it, asked.decimals) for it in shown_in(asked.lines, asked.decimals, arguments.sections)]
+    if further and not arguments.sections:
+        tell(noted.warning(f"{main}what {' and '.join(further)} would rule out isn't asked"))
+    elif further:
+        tell(noted.found(f"{main}{command('check', 'sections')} says which of the solids that one lists show {' and '.join(further)}"))
     given = given_in(asked.lines)
     if given:
         tell(noted.changed(f"the log is of the drawing with its {given.kinds} squared off, whose solids are sharp there"))
@@ -43,7 +48,8 @@ def whole_drawing(arguments: argparse.Namespace, tell: Tell) -> tuple[asking.Ask
     tell(noted.changed(f"lengths multiplied by {10**asked.decimals:,}, since logs are of drawings in whole units"))
     origin = asked.origin._replace(times=asked.origin.times * 10**asked.decimals)
     comments = given_comments(times(given, 10**asked.decimals)) if given else ""
-    return asked, (comments + written(strokes_in(asked.lines, asked.decimals), 0, origin)).encode()
+    strokes = strokes_in_all(asked.lines, asked.decimals, arguments.sections)
+    return asked, (comments + written(strokes, 0, origin)).encode()
 
 
 def run(arguments: argparse.Namespace) -> int:

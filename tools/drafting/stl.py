@@ -9,9 +9,10 @@ from collections.abc import Iterator
 from fractions import Fraction
 
 from . import asking, clean, kept, program
-from .drawing import VIEWS, further_in, lines_within, strokes_in, written
+from .drawing import written
 from .given import given_in
 from .messages import Refused, many, say, write_result
+from .section_layers import strokes_in_all
 from .triangles import edges_of, triangles_of
 
 NAME = "stl"
@@ -45,21 +46,6 @@ def turned_round(text: str) -> str:
     return re.sub(r"^(vertex .*\n)(vertex .*\n)(vertex .*\n)", r"\1\3\2", text, flags=re.M)
 
 
-def choices_of(data: bytes, arguments: argparse.Namespace, decimals: int = 0) -> list[str]:
-    """The choices of the solids that recon lists of a drawing with so many decimals."""
-    words = ["solve", *asking.views_words(lines_within(data)), *asking.decimals_words(("solve",), decimals), *asking.words_of(arguments)]
-    listed = program.run(program.find(arguments.program), words, data, arguments.seconds)
-    return re.findall(r"^solid \d+ choice ([01]+) ", listed.text, re.M)
-
-
-def number_among_all(asked: asking.Asked, number: int, whole: bytes, arguments: argparse.Namespace) -> int:
-    """The number of a solid among all that have the main views, by which recon's `stl` goes."""
-    if not further_in(asked.lines):
-        return number
-    fitting = choices_of(asked.data, arguments, asked.decimals)
-    return choices_of(whole, arguments).index(fitting[number - 1]) + 1
-
-
 def of_rounds(asked: asking.Asked, number: int) -> str:
     """The triangles of a solid with rounds: each circle as a prism of so many sides at least, by the least one's chord height."""
     from .bodies import turned_round as in_a_mirror
@@ -88,12 +74,11 @@ def corners_of(text: str) -> Iterator[list[list[float]]]:
 
 
 def of_recon(asked: asking.Asked, number: int, arguments: argparse.Namespace) -> str:
-    """recon's triangles of a solid without rounds, in its units: it writes those of drawings without decimals, by their main views, and so it
-    is given the same drawing in whole units."""
-    strokes = strokes_in(asked.lines, asked.decimals)
-    whole = written({view: strokes[view] for view in VIEWS if strokes[view]}, 0).encode()
-    words = ["stl", number_among_all(asked, number, whole, arguments), *asking.views_words(asked.lines), *asking.words_of(arguments)]
-    made = program.run(program.find(arguments.program), words, whole, arguments.seconds)
+    """recon's triangles of a solid without rounds, in its units: it writes those of drawings without decimals, and so it is given the same
+    drawing in whole units. With --sections it goes by the solids that show further views too, as `solve` lists them."""
+    strokes = strokes_in_all(asked.lines, asked.decimals, arguments.sections)
+    words = ["stl", number, *asking.views_words(asked.lines), program.SECTIONS, *asking.words_of(arguments)]
+    made = program.run(program.find(arguments.program), words, written(strokes, 0).encode(), arguments.seconds)
     if made.status != program.WHOLE:
         raise Refused(f"recon writes no triangles of its own drawing: {made.text[:80].strip()}")
     return turned_round(made.text) if asked.origin.mirrored else made.text

@@ -45,6 +45,7 @@ def add_arguments(parser: argparse.ArgumentParser) -> None:
     parser.add_argument("--memory", type=int, default=batch.MEMORY, metavar="MIB",
                         help=f"the most memory of a process, 0 for no limit (else {batch.MEMORY:,})")
     parser.add_argument("--as-is", action="store_true", help="recon reads the files as they are, and no sheets are drawn")
+    parser.add_argument("--sections", action="store_true", help="sections are read, as `draft solve` reads them")
     program.add_arguments(parser)
     sheet.add_options(parser)
     parser.set_defaults(seconds=SECONDS)
@@ -52,7 +53,8 @@ def add_arguments(parser: argparse.ArgumentParser) -> None:
 
 def words_of(arguments: argparse.Namespace) -> list[str]:
     """How each drawing is read: options of sheets, as `draft solve` takes them."""
-    return [*(["--as-is"] if arguments.as_is else []), *sheet.words_of(arguments)]
+    said = [f"--{name}" for name in ("as-is", "sections") if getattr(arguments, name.replace("-", "_"))]
+    return [*said, *sheet.words_of(arguments)]
 
 
 def state_of(arguments: argparse.Namespace) -> pathlib.Path:

@@ -112,6 +112,8 @@ def told(solids: list[Found], is_done: bool, grid: Grid, asked: asking.Asked, ar
 def run(arguments: argparse.Namespace, listed: int) -> int:
     if arguments.answer or arguments.expect is not None:
         raise Usage(f"{option('answer')} and {option('expect')} are of what recon lists, and {option('visible-edges-alone')} asks clingo")
+    if arguments.sections:
+        raise Usage(f"{option('sections')} has recon read sections, and {option('visible-edges-alone')} asks clingo, of the main views")
     least = argparse.Namespace(**{**vars(arguments), "nodes": 1, "solids": 1})
     asked = asking.ask(arguments.drawing, least, lambda note: say(f"draft solve: {note}"))
     head = asked.run.text.partition("\n")[0]

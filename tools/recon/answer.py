@@ -184,13 +184,13 @@ class Answer:
         asked = self._asked
         if asked.rounds or not 1 <= number <= len(self):
             raise NotThere("a sheet with rounds isn't drawn anew" if asked.rounds else f"there is no solid {number} of {len(self)}")
-        words = ["redraw", number, *asking.views_words(asked.lines), *asking.decimals_words(("redraw",), asked.decimals),
-                 *asking.words_of(self._arguments)]
+        words = ["redraw", number, *asking.views_words(asked.lines), *asking.sections_words(("redraw",), self._arguments),
+                 *asking.decimals_words(("redraw",), asked.decimals), *asking.words_of(self._arguments)]
         with raised_as(NotThere):
             run = program.run(program.find(self._arguments.program), words, asked.data, self._arguments.seconds)
             if run.status != program.WHOLE:
                 raise NotThere(f"recon redraws a solid of a whole list alone: {run.text.partition(chr(10))[0]}")
-        strokes = clean.with_further(asked._replace(run=run))
+        strokes = clean.with_further(asked._replace(run=run), self._arguments.sections)
         return ezdxf.read(io.StringIO(written(strokes, asked.decimals, asked.origin)))
 
     def why(self, runs: int = looking.RUNS, search: float = looking.SEARCH, processes: int | None = None) -> Why:
