@@ -1,8 +1,9 @@
-"""Says what tells the solids of a drawing apart: for each further view (LEFT, REAR, BOTTOM) and for the areas that a section
-between two grid planes cuts, into how many groups it splits the solids and how many the largest group keeps; the best ones first.
+"""Says what tells the solids of a drawing apart: for each further view (LEFT, REAR, BOTTOM), and for the lines and the area of each section
+between two grid planes, into how many groups it splits the solids and how many the largest group keeps; the best ones first.
 
-With --meant K it says which further views, as few as possible, leave solid K alone, and the lines to be added for them; --write
-writes the drawing with these. Where even all three leave others, it says which sections would settle it and which blocks differ.
+With --meant K it says which further views, as few as possible, leave solid K alone, and the lines to be added for them; where even all
+three leave others, which sections do, with or without views. --write writes the drawing with these, each section on layers of its own
+with a label, and says how it is asked. Where solids are left it says which blocks differ.
 
 Of two views it says what the third one would show of each solid, and with --meant K completes the drawing by that of solid K.
 
@@ -15,21 +16,24 @@ import itertools
 import json
 import pathlib
 from collections import Counter
-from collections.abc import Callable, Hashable, Sequence
+from collections.abc import Callable, Hashable, Iterable, Iterator, Sequence
+from fractions import Fraction
 from typing import NamedTuple
 
 from . import asking, blocks, faults, program
+from .added import Added, Label, ends_of, lines_of_sections, lines_of_view, with_lines
 from .answers import CUT, FAULT, WHOLE, Answer, Face, Solid, answer_of, have_views, text_of
 from .blocks import Blocks
 from .cells import Grid as Cells, grid_round
 from .controls import command, option
-from .drawing import FURTHER, VIEWS, lines_within, number, pairs_of, views_of
+from .drawing import FURTHER, VIEWS, decimals_of, is_known, lines_within, views_of
 from .given import given_in
-from .groups import meet
 from .messages import Progress, Refused, many, say, write_result
 from .panels import (
     AXES, DASHED, FRAMES, SOLID, STYLES, Cell, Sheet, Shown, columns_of, sheet_of, shown_of, strokes_shown, style_between,
 )
+from .section_keys import keys_of as section_shows
+from .section_layers import Layer, Section, layers_in
 
 NAME = "settle"
 HELP = "what further view or section tells the solids of a drawing apart"
@@ -74,20 +78,32 @@ class Solids(NamedTuple):
 
 
 class Means(NamedTuple):
-    """A view or a section, and for each solid what it shows: solids of one key look alike in it. Of a section also the axis that it is
-    across, and which cells it cuts."""
+    """A view, or the lines or the area of a section, and for each solid what it shows: solids of one key look alike in it, and None is nothing,
+    which can't be drawn. Of a section also what it shows, the axis that it is across, and which cells it cuts."""
 
-    name: str
+    place: str
     keys: list[Hashable]
+    layer: Layer
+    kind: str = ""
     section: tuple[int, int] | None = None
 
     @property
+    def name(self) -> str:
+        return f"{self.place} ({self.kind})" if self.kind else self.place
+
+    @property
     def sizes(self) -> list[int]:
-        """How many solids each group has, the largest first."""
-        return sorted(Counter(self.keys).values(), reverse=True)
+        """How many solids each group has, the largest first; where nothing can be drawn all are left."""
+        return sorted((count if key is not None else len(self.keys) for key, count in Counter(self.keys).items()), reverse=True)
 
     def alike(self, number: int) -> set[int]:
-        return {other for other, key in enumerate(self.keys) if key == self.keys[number]}
+        """The solids that one as this is drawn of a solid leaves."""
+        drawn = self.keys[number]
+        return {other for other, key in enumerate(self.keys) if drawn in (key, None)}
+
+    def tells_as(self, other: "Means") -> bool:
+        """Whether this tells apart whatever another one does, whichever solid is meant."""
+        return None not in self.keys and len(set(zip(self.keys, other.keys))) == len(set(self.keys))
 
 
 # ---- what views and sections show
@@ -106,32 +122,51 @@ def view_keys(solids: Solids, view: str, varying: list[Cell]) -> Means:
             style_between(shown[i, j], shown[i + dx, j + dy])
             for i, j in sorted(places) for dx, dy in ((1, 0), (-1, 0), (0, 1), (0, -1))
         ))
-    return Means(view, keys)
+    return Means(view, keys, view)
 
 
-def section_keys(solids: Solids, sheet: Sheet, varying: list[Cell]) -> list[Means]:
-    """What a section between each two neighbouring grid planes cuts of each solid, where they differ there."""
-    means = []
+def section_keys(solids: Solids, sheet: Sheet, varying: list[Cell]) -> Iterator[Means]:
+    """What sections between each two neighbouring grid planes show of the solids, where these differ there: the area, and from both sides the
+    lines, unless these tell no more than what is told already."""
     for axis, cut in enumerate(solids.cells.cuts):
         for at in sorted({cell[axis] for cell in varying}):
-            slab = sum(1 << place_of(solids, cell) for cell in varying if cell[axis] == at)
-            ends = " and ".join(sheet.between(axis, cut, *cut[at:at + 2]))
-            means.append(Means(f"section across {AXES[axis]} between {ends}", [full & slab for full in solids.full], (axis, at)))
-    return means
+            place = f"section across {AXES[axis]} between {' and '.join(sheet.between(axis, cut, *cut[at:at + 2]))}"
+            plane = plane_between(cut[at] - cut[0], cut[at + 1] - cut[0], sheet.decimals)
+            if plane is None:
+                continue
+            told: list[Means] = []
+            for view, is_area in ways_across(axis):
+                Progress.show(f"{place}, {view}")
+                section, kind = Section(view, plane, is_area), "area" if is_area else f"lines from {sheet.name(view)}"
+                one = Means(place, section_shows(solids.cells, solids.full, section), section, kind, (axis, at))
+                told += [] if any(other.tells_as(one) for other in told) else [one]
+            yield from told
 
 
-def place_of(solids: Solids, cell: Cell) -> int:
-    return sum(at * stride for at, stride in zip(cell, solids.cells.strides))
+def ways_across(axis: int) -> list[tuple[str, bool]]:
+    """What a section across an axis may show: its area, seen as in a main view, and its lines, seen so or from the other side."""
+    views = [view for view in (*VIEWS, *FURTHER) if FRAMES[view].sight == axis]
+    return [(views[0], True), *((view, False) for view in views)]
+
+
+def plane_between(low: int, high: int, decimals: int) -> Fraction | None:
+    """A plane between two coordinates, in units of the last decimal: about in the middle, with as few decimals as can be, at most 6."""
+    for places in range(program.MOST_DECIMALS + 1):
+        unit = Fraction(10**decimals, 10**places)
+        plane = round(Fraction(low + high, 2) / unit) * unit
+        if low < plane < high:
+            return plane
+    return None
 
 
 def all_means(solids: Solids, sheet: Sheet) -> tuple[list[Means], list[Means]]:
     """What each view that isn't drawn, a main one first, and each section shows of the solids; of the sections the best ones first."""
     varying = solids.cells_in(solids.varying())
     views = [view_keys(solids, view, varying) for view in (*sheet.missing, *FURTHER)]
-    return views, best_first(section_keys(solids, sheet, varying))
+    return views, best_first(list(section_keys(solids, sheet, varying)))
 
 
-def best_first(means: list[Means]) -> list[Means]:
+def best_first(means: Sequence[Means]) -> list[Means]:
     return sorted(means, key=lambda it: (it.sizes[0], -len(it.sizes)))
 
 
@@ -165,72 +200,44 @@ def views_for(views: list[Means], number: int) -> tuple[list[Means], set[int]]:
     return views, least
 
 
-def sections_for(sections: list[Means], number: int, left: set[int]) -> list[Means]:
-    """The fewest sections that tell a solid from all others that are left, up to so many."""
+def fewest_sections(sections: list[Means], number: int, left: set[int]) -> list[Means]:
+    """The fewest sections that tell a solid from all others that are left, up to so many; else one after another, as long as fewer are left."""
+    alike = [left & it.alike(number) for it in sections]
+    best = sorted(range(len(sections)), key=lambda it: len(alike[it]))
     for count in range(1, MOST_SECTIONS + 1):
-        for chosen in itertools.combinations(sections[:SHOWN * 2], count):
-            if left.intersection(*(it.alike(number) for it in chosen)) == {number}:
-                return list(chosen)
-    return []
+        for chosen in itertools.combinations(best[:SHOWN * 2], count):
+            if left.intersection(*map(alike.__getitem__, chosen)) == {number}:
+                return [sections[it] for it in chosen]
+    found: list[Means] = []
+    while best and len(left & alike[best[0]]) < len(left):
+        left = left & alike[best[0]]
+        found.append(sections[best[0]])
+        best.sort(key=lambda it: len(left & alike[it]))
+    return found
 
 
-class Added(NamedTuple):
-    """A line to be added: its layer, whether it is dashed, and its ends on the sheet in units."""
-
-    view: str
-    dashed: bool
-    start: tuple[int, int]
-    end: tuple[int, int]
+def sections_for(sections: list[Means], number: int, left: set[int]) -> list[Means]:
+    """The fewest sections that tell a solid from all others that are left; none where none do."""
+    chosen = fewest_sections(sections, number, left)
+    return chosen if left_by(chosen, number, left) == {number} else []
 
 
-def main_places(sheet: Sheet, sizes: list[int], gap: int) -> dict[str, tuple[int, int]]:
-    """Where the main views begin on the sheet; the one that isn't drawn in line with the others, or right of all where they stand there."""
-    if not sheet.missing:
-        return sheet.origins
-    its = dict(sheet.origins)
-    view = sheet.missing[0]
-    x, y = its["FRONT"] if view != "FRONT" else (its["TOP"][0], its["SIDE"][1])
-    place = {"FRONT": (x, y), "TOP": (x, y + sizes[2] + gap), "SIDE": (x + sizes[0] + gap, y)}[view]
-    boxes = {name: (right, up, right + sizes[FRAMES[name].right], up + sizes[FRAMES[name].up])
-             for name, (right, up) in {**its, view: place}.items()}
-    if any(meet(box, boxes[view], 0) for name, box in boxes.items() if name != view):
-        place = max(box[2] for name, box in boxes.items() if name != view) + gap, y
-    return {**its, view: place}
+def with_sections(chosen: list[Means], sections: list[Means], number: int, every: set[int]) -> list[Means]:
+    """Views and sections that leave as few solids as can be, where views alone leave others: sections alone, beside a main view that isn't
+    drawn; or with these views, where then fewer do, or fewer are left."""
+    ways = []
+    for views in ([it for it in chosen if it.name in VIEWS], chosen):
+        means = [*views, *fewest_sections(sections, number, left_by(views, number, every))]
+        ways.append((len(left_by(means, number, every)), len(means), means))
+    return min(ways, key=lambda way: way[:2])[2]
 
 
-def place_on_sheet(view: str, sheet: Sheet, cuts: list[list[int]]) -> tuple[int, int]:
-    """Where a view that is added begins on the sheet: a main one in line with the others, LEFT to the left of FRONT, REAR to the right of
-    SIDE, BOTTOM below FRONT."""
-    wide, deep, _ = sizes = [cut[-1] - cut[0] for cut in cuts]
-    gap = 10 * 10**sheet.decimals
-    its = main_places(sheet, sizes, gap)
-    (x, y), (side, beside) = its["FRONT"], its["SIDE"]
-    gap = side - x - wide if side > x + wide else gap
-    return {**its, "LEFT": (x - gap - deep, y), "REAR": (side + deep + gap, beside), "BOTTOM": (x, y - gap - deep)}[view]
-
-
-def lines_of_view(view: str, shown: Shown, sheet: Sheet, cuts: list[list[int]]) -> list[Added]:
-    """The lines of a further view, one for each run, where it stands on the sheet."""
-    return [Added(view, *stroke) for stroke in strokes_shown(shown, *place_on_sheet(view, sheet, cuts))]
-
-
-def with_lines(lines: list[str], added: list[Added], decimals: int) -> str:
-    """The drawing's text with lines added at the end of its first section of entities."""
-    section, end = "", None
-    for line, code, value in pairs_of(lines):
-        section = value.upper() if code == 2 and section == "?" else section
-        section = "?" if (code, value.upper()) == (0, "SECTION") else section
-        if (code, value.upper()) == (0, "ENDSEC") and section == "ENTITIES":
-            end = line - 1
-            break
-    if end is None:
-        raise Refused("the drawing has no section of entities that ends")
-    more = []
-    for it in added:
-        more += ["0", "LINE", "8", it.view, "6", "HIDDEN" if it.dashed else "CONTINUOUS"]
-        for (right, up), codes in ((it.start, ("10", "20", "30")), (it.end, ("11", "21", "31"))):
-            more += [codes[0], number(right, decimals), codes[1], number(up, decimals), codes[2], "0"]
-    return "\n".join([*lines[:end], *more, *lines[end:]]) + "\n"
+def names_of(means: Sequence[Means], sheet: Sheet) -> str:
+    """Views and sections in words: what is drawn of one section together."""
+    kinds: dict[str, list[str]] = {}
+    for it in means:
+        kinds.setdefault(it.place if it.kind else sheet.name(it.place), []).append(it.kind)
+    return " and ".join(f"a {place} ({' and '.join(its)})" if any(its) else place for place, its in kinds.items())
 
 
 def blocks_told(its: Blocks, choices: list[str], sheet: Sheet) -> list[str]:
@@ -334,12 +341,12 @@ def stretches_told(shown: Shown, sheet: Sheet, wide: int) -> list[str]:
             for dashed, *ends in strokes_shown(shown, 0, 0)] or ["  nothing"]
 
 
-def table(means: Sequence[Means], sheet: Sheet) -> list[str]:
-    """A row for each view or section: groups, and how many solids the largest keeps."""
-    rows = [("", "groups", "the largest keeps")]
-    rows += [(sheet.name(it.name), str(len(it.sizes)), str(it.sizes[0])) for it in means]
-    width = max(len(name) for name, _, _ in rows)
-    return [f"{name:{width}}  {groups:>6}  {largest:>17}" for name, groups, largest in rows]
+def table(means: Sequence[Means], sheet: Sheet, meant: int | None) -> list[str]:
+    """A row for each view or section: groups, how many solids the largest keeps, and where one is meant how many are left."""
+    rows = [("", "groups", "the largest keeps", "" if meant is None else f"solid {meant} leaves")]
+    rows += [(sheet.name(it.name), str(len(it.sizes)), str(it.sizes[0]), "" if meant is None else str(len(it.alike(meant - 1)))) for it in means]
+    widths = [max(map(len, column)) for column in zip(*rows)]
+    return ["  ".join(f"{it:>{width}}" if at else f"{it:{width}}" for at, (it, width) in enumerate(zip(row, widths))).rstrip() for row in rows]
 
 
 def checked(
@@ -355,50 +362,71 @@ def checked(
     return f"Checked: of the drawing with these lines the program lists {many(len(wanted), 'solid')}, just {just}."
 
 
-def left_by(views: list[Means], number: int) -> set[int]:
-    """The solids that look like one in some views."""
-    return set(range(len(views[0].keys))).intersection(*(it.alike(number) for it in views))
+def left_by(means: Iterable[Means], number: int, every: set[int]) -> set[int]:
+    """Those of some solids that look like one in some views and sections."""
+    return every.intersection(*(it.alike(number) for it in means))
 
 
 def added_told(line: Added, sheet: Sheet, cuts: list[list[int]]) -> str:
-    """A line to be added in words: where it stands in the drawing, or on the sheet that this was made of."""
-    places = [(sheet.length(right), sheet.length(up)) for right, up in (line.start, line.end)]
-    if sheet.back:
-        x, y = place_on_sheet(line.view, sheet, cuts)
+    """A line to be added in words: where it stands in the drawing, or on the sheet that this was made of; there a section's from where that
+    begins, at the lower left."""
+    x, y = line.begin
+    if not sheet.back:
+        places = [(sheet.length(right), sheet.length(up)) for right, up in (line.start, line.end)]
+    elif line.view in FRAMES:
         frame = FRAMES[line.view]
         size = cuts[frame.right][-1] - cuts[frame.right][0], cuts[frame.up][-1] - cuts[frame.up][0]
         places = [sheet.back.place_beside(line.view, size, right - x, up - y) for right, up in (line.start, line.end)]
+    else:
+        places = [(sheet.length(right - x), sheet.length(up - y)) for right, up in (line.start, line.end)]
     ends = " to ".join(f"({right}, {up})" for right, up in places)
     return f"  {sheet.name(line.view)} {ends}: {STYLES[DASHED if line.dashed else SOLID]}"
 
 
+class Meant(NamedTuple):
+    """What is told of the solid that is meant, the lines and labels to be added, and the faces of the solids that are left."""
+
+    rows: list[str]
+    added: list[Added]
+    labels: list[Label]
+    left: list[list[Face]]
+
+
 def told_meant(
-    solids: Solids, answer: Answer, number: int, views: list[Means], sections: list[Means], sheet: Sheet, its: Callable[[], Blocks],
-    by: Sequence[str] = ()
-) -> tuple[list[str], list[Added], list[list[Face]]]:
-    """What is told of the solid that is meant, the lines to be added, and the faces of the solids that are left; by the fewest views,
-    or by those that are named."""
+    case: Case, solids: Solids, number: int, views: list[Means], sections: list[Means], sheet: Sheet, its: Callable[[], Blocks],
+    by: Sequence[str] = (), by_sections: bool = True
+) -> Meant:
+    """What is told of the solid that is meant: by the fewest views, or by those that are named; or where these leave others by sections."""
+    answer, every = case.answer, set(range(len(solids.full)))
     chosen, left = views_for(views, number)
     if by:
         chosen = [it for it in views if sheet.name(it.name) in by]
-        left = left_by(chosen, number)
-    names = " and ".join(sheet.name(it.name) for it in chosen)
+    elif left != {number} and by_sections:
+        chosen = with_sections(chosen, sections, number, every)
+    left = left_by(chosen, number, every)
     cells, cuts = solids.cells_in(solids.full[number]), solids.cells.cuts
-    added = [line for it in chosen for line in lines_of_view(it.name, shown_of(cells, cuts, it.name), sheet, cuts)]
-    if left == {number}:
-        rows = [f"Solid {number + 1} is told by {names} alone. The lines to be added:"]
-    elif chosen:
-        rows = [f"No {'' if sheet.missing else 'further '}views tell solid {number + 1} alone: with {names} {len(left):,} solids are left. The lines to be added:"]
-    else:
-        rows = [f"No further view tells solid {number + 1} from any other."]
-    rows += [added_told(line, sheet, cuts) for line in added]
+    added = [line for it in chosen if not it.kind for line in lines_of_view(it.name, shown_of(cells, cuts, it.name), sheet, cuts)]
+    floor = min([ends_of(case.lines, case.decimals)[1], *(up for line in added for _, up in (line.start, line.end))])
+    its_sections = (it.layer for it in chosen if isinstance(it.layer, Section))
+    more, labels = lines_of_sections(its_sections, cells, cuts, case.lines, case.decimals, floor)
+    added += more
+    rows = [chosen_told(number, chosen, len(left), sheet), *(added_told(line, sheet, cuts) for line in added)]
     if left != {number}:
         rows.append(f"The solids that are left: {', '.join(str(it + 1) for it in sorted(left))}. They differ in")
         rows += blocks_told(its(), [answer.solids[it].choice for it in sorted(left)], sheet)
         settling = sections_for(sections, number, left)
-        names = " and a ".join(it.name for it in settling)
-        rows.append(f"It would be settled by a {names}." if settling else f"No {MOST_SECTIONS} sections settle it.")
-    return rows, added, [answer.solids[it].faces for it in sorted(left)]
+        rows.append(f"It would be settled by {names_of(settling, sheet)}." if settling else "No sections settle it.")
+    return Meant(rows, added, labels, [answer.solids[it].faces for it in sorted(left)])
+
+
+def chosen_told(number: int, chosen: Sequence[Means], left: int, sheet: Sheet) -> str:
+    """What is said of the views and sections that are chosen, which leave so many solids."""
+    if left == 1:
+        return f"Solid {number + 1} is told by {names_of(chosen, sheet)} alone. The lines to be added:"
+    if not chosen:
+        return f"No further view tells solid {number + 1} from any other."
+    kinds = f"{'' if sheet.missing else 'further '}views{' and sections' if any(it.kind for it in chosen) else ''}"
+    return f"No {kinds} tell solid {number + 1} alone: with {names_of(chosen, sheet)} {left:,} solids are left. The lines to be added:"
 
 
 def looked_at(case: Case) -> tuple[Sheet, Solids, list[Means], list[Means]]:
@@ -411,22 +439,39 @@ def looked_at(case: Case) -> tuple[Sheet, Solids, list[Means], list[Means]]:
     return sheet, solids, views, sections
 
 
-def text_for(arguments: argparse.Namespace, case: Case, added: list[Added], left: list[list[Face]]) -> tuple[str, str]:
+def text_for(arguments: argparse.Namespace, case: Case, meant: Meant) -> tuple[str, str]:
     """The drawing with the added lines, and what is said of its check by the program."""
-    text = with_lines(case.lines, added, case.decimals)
+    sections = bool(meant.labels) or arguments.sections
+    if meant.labels and not arguments.sections and layers_in(case.lines):
+        raise Refused(f"the drawing has sections which weren't read, {' and '.join(layers_in(case.lines))}: settle it with {option('sections')}")
+    text = with_lines(case.lines, meant.added, case.decimals, meant.labels)
+    lines = lines_within(text.encode())
+    decimals = max(case.decimals, decimals_of(lines, sections))
     if case.sheet is None:
         return text, "Not checked by the program, since the answer was given: the views are drawn here."
     if not WHOLE.fullmatch(case.answer.head):
         return text, "Not checked by the program, since the search was cut: the views are drawn here."
-    words = [*asking.views_words(lines_within(text.encode())), "--decimals", case.decimals, *asking.words_of(arguments)]
-    return text, checked(text, program.find(arguments.program), words, left, arguments.seconds, case.left_out())
+    words = [*asking.views_words(lines), *([program.SECTIONS] if sections else []), "--decimals", decimals, *asking.words_of(arguments)]
+    left, left_out = ([scaled(faces, 10**(decimals - case.decimals)) for faces in its] for its in (meant.left, case.left_out()))
+    return text, checked(text, program.find(arguments.program), words, left, arguments.seconds, left_out)
+
+
+def scaled(faces: list[Face], times: int) -> list[Face]:
+    """Faces in units so many times smaller."""
+    return [Face(face.outward, [[tuple(it * times for it in corner) for corner in loop] for loop in face.loops]) for face in faces]
 
 
 def as_json(rows: list[str], text: str, left: int) -> str:
     """What is told of the solid that is meant in sentences, the lines to be added, the drawing with them, and how many solids that leaves."""
-    lines = [row.strip() for row in rows if row.startswith("  ") and row.split()[0] in FRAMES]
+    lines = [row.strip() for row in rows if row.startswith("  ") and is_known(row.split()[0])]
     words = [row.removesuffix(" The lines to be added:").removesuffix(" They differ in") for row in rows if not row.startswith("  ")]
     return json.dumps({"words": words, "lines": lines, "dxf": text, "left": left})
+
+
+def how_asked(text: str) -> str:
+    """How a drawing with sections is asked."""
+    words = [program.SECTIONS, *asking.decimals_words(("solve",), decimals_of(lines_within(text.encode()), True))]
+    return f"; its sections are read by {command('solve', 'sections')}, or `recon solve {' '.join(map(str, words))}`"
 
 
 def run(arguments: argparse.Namespace) -> int:
@@ -441,23 +486,23 @@ def run(arguments: argparse.Namespace) -> int:
         raise Refused(f"there is no solid {arguments.meant}: {many(len(answer.solids), 'solid')} listed")
     sheet, solids, views, sections = looked_at(case)
     shown = sections if arguments.all else sections[:SHOWN]
-    rows = [f"{have_views(len(answer.solids), ''.join(map(sheet.name, sheet.missing)))}.", *table(best_first([*views, *shown]), sheet)]
+    rows = [f"{have_views(len(answer.solids), ''.join(map(sheet.name, sheet.missing)))}.", *table(best_first([*views, *shown]), sheet, arguments.meant)]
     if len(shown) < len(sections):
         rows.append(f"({len(sections) - len(shown)} further sections: {option('all')})")
-    added: list[Added] = []
+    meant = Meant([], [], [], [])
     if arguments.meant is None:
         rows += third_told(solids, views[0], sheet, len(answer.solids) if arguments.all else SHOWN) if sheet.missing else []
         rows.append("Views and sections are drawn here, from the solids that the program lists.")
     else:
         its = functools.partial(blocks.of, arguments, case.data, case.lines, case.decimals)
-        more, added, left = told_meant(solids, answer, arguments.meant - 1, views, sections, sheet, its, arguments.by)
-        text, said = text_for(arguments, case, added, left) if added else ("", "")
-        more = [*more, said] if added else more
-        rows = [as_json(more, text, len(left))] if arguments.json else [*rows, *more]
+        meant = told_meant(case, solids, arguments.meant - 1, views, sections, sheet, its, arguments.by, not arguments.json)
+        text, said = text_for(arguments, case, meant) if meant.added else ("", "")
+        more = [*meant.rows, said] if meant.added else meant.rows
+        rows = [as_json(more, text, len(meant.left))] if arguments.json else [*rows, *more]
     write_result("".join(f"{row}\n" for row in rows), None)
     if arguments.write:
-        if not added:
+        if not meant.added:
             raise Refused("nothing is written, since there is no line to be added")
         write_result(text, arguments.write)
-        say(f"draft settle: {arguments.write} has {many(len(added), 'line')} more")
+        say(f"draft settle: {arguments.write} has {many(len(meant.added), 'line')} more{how_asked(text) if meant.labels else ''}")
     return 0

@@ -220,8 +220,8 @@ class Answer:
             if meant is None:
                 return Settling(groups)
             its = functools.partial(blocks.of, self._arguments, case.data, case.lines, case.decimals)
-            rows, added, left = settling.told_meant(solids, case.answer, meant - 1, views, sections, sheet, its, by)
-            text, said = settling.text_for(self._arguments, case, added, left) if added else ("", "")
+            told = settling.told_meant(case, solids, meant - 1, views, sections, sheet, its, by)
+            text, said = settling.text_for(self._arguments, case, told) if told.added else ("", "")
         faces = [solid.faces for solid in case.answer.solids]
-        numbers = tuple(at for at, one in enumerate(faces, 1) if one in left)
-        return Settling(groups, tuple(line_of(it, case.decimals) for it in added), numbers, text, tuple([*rows, said] if said else rows))
+        numbers = tuple(at for at, one in enumerate(faces, 1) if one in told.left)
+        return Settling(groups, tuple(line_of(it, case.decimals) for it in told.added), numbers, text, tuple([*told.rows, said] if said else told.rows))

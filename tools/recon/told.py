@@ -5,6 +5,7 @@ from dataclasses import dataclass
 from fractions import Fraction
 
 from drafting import settle, why
+from drafting.added import Added
 from drafting.panels import STYLES, Row
 
 Place = tuple[Fraction, Fraction]
@@ -53,7 +54,7 @@ class Groups:
 
 @dataclass(frozen=True)
 class Line:
-    """A line to be added: its view, whether it is dashed, and its ends in the drawing that recon read."""
+    """A line to be added: its view or the layer of its section, whether it is dashed, and its ends in the drawing that recon read."""
 
     view: str
     is_dashed: bool
@@ -64,7 +65,7 @@ class Line:
 @dataclass(frozen=True)
 class Settling:
     """What tells solids apart: views and sections, the best first; and of the solid that is meant the lines that leave as few others as
-    views can, which ones are left, by their numbers, the drawing's text with these lines, and all in words."""
+    views, or else sections, can, which ones are left, by their numbers, the drawing's text with these lines, and all in words."""
 
     groups: tuple[Groups, ...]
     lines: tuple[Line, ...] = ()
@@ -100,6 +101,6 @@ def groups_of(means: list[settle.Means]) -> tuple[Groups, ...]:
     return tuple(Groups(it.name, len(it.sizes), it.sizes[0]) for it in settle.best_first(means))
 
 
-def line_of(added: settle.Added, decimals: int) -> Line:
+def line_of(added: Added, decimals: int) -> Line:
     start, end = ((Fraction(x, 10**decimals), Fraction(y, 10**decimals)) for x, y in (added.start, added.end))
     return Line(added.view, added.dashed, start, end)

@@ -1,19 +1,26 @@
 """Commands over drawings that have sections: the program reads these where it is asked to, and just the solids that show them are told."""
 import json
 import pathlib
+import random
 import re
 import tempfile
 import unittest
 
 from drafting import program
-from drafting.drawing import Stroke, lines_of, strokes_in, written
+from drafting.drawing import VIEWS, Stroke, entries_of, lines_of, strokes_in, written
 
 from .cut_solids import lines_of as strokes_of
+from .made import drawn, file_of, pierced, random_cuts
 from .support import EXAMPLES, draft, needs_command, needs_program
 from .test_cut_solids import FALLING, RISING, shown_by
+from .test_settle import SHALLOW, rectangles
 
+# How many random drawings are settled.
+DRAWINGS = 5
 # What a section of each of the three solids shows that leaves all of it: the square in quarters.
 WHOLE = "rect 0 0 2 2, line 0 1 2 1, line 1 0 1 2"
+# The eight voids, not as deep, cut through the four in front: of their 35 solids 7 have these voids.
+AREA = "S 0 0 5 5; S 1 1 2 2; S 3 1 4 2; S 1 3 2 4; S 3 3 4 4"
 
 
 class InAFolder(unittest.TestCase):
@@ -122,6 +129,88 @@ def volume(text: str) -> float:
     for a, b, c in zip(corners[::3], corners[1::3], corners[2::3]):
         found += (a[0] * (b[1] * c[2] - b[2] * c[1]) - a[1] * (b[0] * c[2] - b[2] * c[0]) + a[2] * (b[0] * c[1] - b[1] * c[0])) / 6
     return found
+
+
+@needs_program()
+class Settle(InAFolder):
+    def setUp(self) -> None:
+        super().setUp()
+        self.out = self.folder / "out.dxf"
+
+    def voids(self, *words: object, **layers: str) -> str:
+        """What is said of the eight voids, not as deep, whose 35 solids no further views tell apart."""
+        views = {**SHALLOW, **layers}
+        self.file.write_text(written({view: aside(rectangles(text), 20 * at) for at, (view, text) in enumerate(views.items())}, 0))
+        ended = draft("settle", self.file, "--meant", 1, *words)
+        self.assertEqual(ended.status, 0, ended.said)
+        return ended.out + ended.said
+
+    def test_sections_settle_what_views_leave_open(self) -> None:
+        said = self.voids("--write", self.out)
+        self.assertRegex(said, r"(?m)^section across y between 1 and 2 \(area\) +7 +7 +4$")
+        self.assertRegex(said, r"Solid 1 is told by .*section across . between . and . \(area\).* alone")
+        self.assertIn("Checked: of the drawing with these lines the program lists 1 solid, just that.", said)
+        self.assertRegex(said, r"its sections are read by `draft solve --sections`, or `recon solve --sections( --decimals 1)?`\n")
+        asked = re.search(r"`recon (solve .*)`", said)
+        assert asked
+        first = program.run(program.find(), ["solve"], self.file.read_bytes()).text
+        words: list[object] = [*asked[1].split()]
+        run = program.run(program.find(), words, self.out.read_bytes())
+        self.assertTrue(run.text.startswith("whole 1 "))
+        self.assertEqual(re.search(r"choice (\d+)", run.text)[1], re.search(r"choice (\d+)", first)[1])  # type: ignore[index]
+
+    def test_each_section_has_a_label(self) -> None:
+        self.voids("--write", self.out)
+        entities = [entry for entry in entries_of(lines_of(str(self.out))) if entry.section == "ENTITIES" and 8 in entry.values]
+        layers = {entry.values[8] for entry in entities} - set(VIEWS)
+        labels = {entry.values[8]: entry.values[1] for entry in entities if entry.name == "TEXT"}
+        self.assertEqual(labels.keys(), layers)
+        self.assertEqual(sorted(labels.values()), ["AREA A-A", "AREA B-B"])
+        # This release takes no points in names.
+        self.assertTrue(all(re.fullmatch(r"AREA_[A-Z]+_[0-9]+E-1", layer) for layer in layers), layers)
+
+    def test_views_that_are_named_are_taken_alone(self) -> None:
+        said = self.voids("--by", "REAR")
+        self.assertIn("No further views tell solid 1 alone: with REAR 4 solids are left.", said)
+        self.assertRegex(said, r"It would be settled by a section across . between . and . \(.*\)\.")
+
+    def test_sections_that_are_drawn_are_read_first(self) -> None:
+        """With a section drawn that isn't read none is added."""
+        self.voids()
+        ended = draft("settle", self.folder / "none.dxf")
+        self.assertEqual(ended.status, 1)
+        said = self.voids("--sections", "--write", self.out, AREA_REAR_2=AREA)
+        self.assertIn("7 solids have these views.", said)
+        self.assertIn("Checked: of the drawing with these lines the program lists 1 solid, just that.", said)
+        ended = draft("settle", self.file, "--meant", 1)
+        self.assertEqual((ended.status, ended.out), (1, ""))
+        self.assertIn("the drawing has sections which weren't read, AREA_REAR_2: settle it with --sections", ended.said)
+
+    def test_random_drawings(self) -> None:
+        """Of each random drawing of several solids the program lists just what is said to be left, by its own check, mostly one alone."""
+        rng, alone, tried = random.Random(792), 0, 0
+        while tried < DRAWINGS:
+            cells = pierced(rng)
+            grid = drawn(cells, random_cuts(rng, cells))
+            self.file.write_text(file_of(grid))
+            count = int(program.run(program.find(), ["solve"], self.file.read_bytes()).text.split()[1])
+            if 1 < count < 200:
+                tried += 1
+                ended = draft("settle", self.file, "--meant", rng.randint(1, count), "--write", self.out)
+                self.assertEqual(ended.status, 0, (ended.said, file_of(grid)))
+                self.assertIn("Checked: of the drawing with these lines the program lists", ended.out)
+                alone += "Checked: of the drawing with these lines the program lists 1 solid, just that." in ended.out
+        self.assertGreater(alone, DRAWINGS // 2)
+
+    def test_where_all_further_views_are_alike(self) -> None:
+        ended = draft("settle", EXAMPLES / "eight_voids.dxf", "--meant", 12, "--write", self.out)
+        self.assertEqual(len(re.findall(r"(?m)^(?:LEFT|REAR|BOTTOM) +1 +35 +35$", ended.out)), 3, ended.out)
+        self.assertIn("Checked: of the drawing with these lines the program lists 1 solid, just that.", ended.out)
+
+    def test_a_view_that_settles_is_taken_first(self) -> None:
+        ended = draft("settle", EXAMPLES / "quartered_cube.dxf", "--meant", 1, "--write", self.out)
+        self.assertIn("Solid 1 is told by LEFT alone.", ended.out)
+        self.assertNotRegex(self.out.read_text(), "SECTION_|AREA_")
 
 
 if __name__ == "__main__":

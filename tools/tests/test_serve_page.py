@@ -61,14 +61,14 @@ class Table(Opened):
         self.browser.until("!document.getElementById('settle').hidden", PATIENCE)
         rows = dict(self.value(ROWS))
         self.assertEqual([rows[view] for view in ("REAR", "LEFT", "BOTTOM")], [[1, 35]] * 3)
-        section = "section across x between 1 and 2"
+        section = "section across x between 1 and 2 (area)"
         self.assertEqual(rows[section], [7, 7])
         self.type_into("#settle input", "1")
         row = f"[...document.querySelectorAll('#settle li')].find((row) => row.dataset.name === '{section}')"
         self.assertEqual(self.value(f"{row}.dataset.leaves"), "4")
         self.press(f"{row}.querySelector('button')")
         self.assertEqual(self.value("viewer.state.fitting.length"), 4)
-        self.assertIn("4 of 35 solids look like solid 1 in section across x between 1 and 2", self.text(".fixing .count"))
+        self.assertIn("4 of 35 solids look like solid 1 in section across x between 1 and 2 (area)", self.text(".fixing .count"))
         self.press(button("What to add for it"))
         self.browser.until("document.querySelector('.added .words')?.innerText.length > 10", PATIENCE)
         self.assertIn("It would be settled by a section", self.text(".added"))

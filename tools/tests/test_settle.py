@@ -69,16 +69,16 @@ class Settle(unittest.TestCase):
         self.file.write_text(written({view: rectangles(text) for view, text in SHALLOW.items()}, 0))
 
     def test_a_view_from_behind_leaves_four_of_the_eight_voids(self) -> None:
-        ended = draft("settle", self.file, "--meant", 1, "--write", self.out)
+        ended = draft("settle", self.file, "--meant", 1, "--by", "REAR", "--write", self.out)
         self.assertEqual(ended.status, 0, ended.said)
-        self.assertRegex(ended.out, r"(?m)^REAR +7 +7$")
-        self.assertRegex(ended.out, r"(?m)^LEFT +1 +35$")
+        self.assertRegex(ended.out, r"(?m)^REAR +7 +7 +4$")
+        self.assertRegex(ended.out, r"(?m)^LEFT +1 +35 +35$")
         self.assertIn("No further views tell solid 1 alone: with REAR 4 solids are left.", ended.out)
         self.assertIn("The solids that are left: 1, 3, 25, 27.", ended.out)
         # Behind the two squares that REAR shows solid, x turned round, lie two voids, which are told by front and section alone.
         self.assertIn("  block 1, within x 1 to 2, y 1 to 2, z 1 to 2: full in 2 of 4\n", ended.out)
         self.assertIn("  block 6, within x 3 to 4, y 1 to 2, z 3 to 4: full in 2 of 4\n", ended.out)
-        self.assertIn("It would be settled by a section across y between 1 and 2.", ended.out)
+        self.assertIn("It would be settled by a section across y between 1 and 2 (area).", ended.out)
         self.assertIn("Checked: of the drawing with these lines the program lists 4 solids, just those.", ended.out)
         rear = [
             (values[6] == "HIDDEN", (int(values[10]), int(values[20])), (int(values[11]), int(values[21])))
