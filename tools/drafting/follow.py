@@ -316,7 +316,7 @@ def suggest(asked: asking.Asked, arguments: argparse.Namespace, emit: Callable[[
 
     emit({"kind": "looking"})
     limits = why.Limits(arguments.runs, arguments.search)
-    rows, found = why.told_of(asked, program.find(arguments.program), limits, tell)
+    rows, found = why.told_of(asked, program.find(arguments.program), limits, tell, arguments.sections)
     for one in found:
         if one.words[0] not in told:
             tell(one)

@@ -1,28 +1,32 @@
-"""What is wrong where solids have the three main views of a drawing, and none of these its further views too: how many of them have each
-further view, and what of these would have to be drawn otherwise for the solid that is nearest to them. Views are drawn here, by the
-definitions; so drawn, the program is asked how many solids there are.
+"""What is wrong where solids have the three main views of a drawing, and none of these its further views and sections too: how many of them
+have each, whether some have all of it without one of the sections, or with that seen from the other side or mirrored, and what would have to
+be drawn otherwise for the solid that is nearest to them. Views are drawn here, by the definitions; so drawn, the program is asked how many
+solids there are.
 """
 import itertools
 import pathlib
 from collections import defaultdict
-from collections.abc import Iterator
+from collections.abc import Callable, Iterable, Iterator, Mapping, Sequence
+from fractions import Fraction
 from typing import NamedTuple
 
 from . import program, trials
 from .answers import Solid, answer_of
 from .cells import grid_round
-from .drawing import Views
+from .drawing import Line
 from .messages import Progress, Refused, many
-from .panels import BLANK, DASHED, SOLID, STYLES, Sheet, Shown, Stroke, further_of, shown_of, strokes_of, strokes_shown
+from .panels import BLANK, DASHED, SOLID, STYLES, Sheet, Shown, Stroke, shown_by, strokes_of, strokes_shown
+from .section_layers import Layer, Section, layer_of, shown_of_layer
 
 # How many solids are drawn.
 MOST = 4_096
 
 
 class Stretch(NamedTuple):
-    """A stretch of a view's line, from one coordinate to a greater one, and its styles in the drawing and in the view of a solid."""
+    """A stretch of a line of a view or section, from one coordinate to a greater one, and its styles in the drawing and in the view of a
+    solid."""
 
-    view: str
+    layer: Layer
     upright: bool
     at: int
     low: int
@@ -35,8 +39,8 @@ class Stretch(NamedTuple):
         return self.high - self.low
 
 
-def stretches_unlike(view: str, drawn: Shown, shown: Shown) -> Iterator[Stretch]:
-    """Where two views differ."""
+def stretches_unlike(layer: Layer, drawn: Shown, shown: Shown) -> Iterator[Stretch]:
+    """Where a view or section is drawn otherwise than it shows a solid."""
     rows: dict[tuple[bool, int], list[tuple[int, int, int, bool]]] = defaultdict(list)
     for runs, is_drawn in ((drawn, True), (shown, False)):
         for upright, at, style, low, high in runs:
@@ -47,14 +51,14 @@ def stretches_unlike(view: str, drawn: Shown, shown: Shown) -> Iterator[Stretch]
             styles = [max((style for style, first, last, it in row if it == is_drawn and first <= low and high <= last), default=BLANK)
                       for is_drawn in (True, False)]
             if styles[0] != styles[1]:
-                yield Stretch(view, upright, at, low, high, *styles)
+                yield Stretch(layer, upright, at, low, high, *styles)
 
 
-def shown_by_solid(solid: Solid, views: list[str]) -> dict[str, Shown]:
-    """What some views show of a solid."""
+def shown_by_solid(solid: Solid, layers: Iterable[Layer]) -> dict[Layer, Shown]:
+    """What some views and sections show of a solid."""
     grid = grid_round([solid])
     cells = list(grid.all_in(grid.cells(solid)))
-    return {view: shown_of(cells, grid.cuts, view) for view in views}
+    return {layer: shown_of_layer(cells, grid.cuts, layer) for layer in layers}
 
 
 def lines_of(stretch: Stretch, strokes: list[Stroke]) -> list[int]:
@@ -68,41 +72,87 @@ def was_drawn(style: int) -> str:
 
 
 def stretch_told(stretch: Stretch, sheet: Sheet, strokes: list[Stroke]) -> str:
-    """A stretch in words, in the coordinates of the sheet."""
+    """A stretch in words, in the coordinates of the sheet; that of a section of a sheet from where the section begins."""
     x, y = (min(it.low if it.upright == way else it.at for it in strokes) for way in (False, True))
     moved = [it._replace(at=it.at - across, low=it.low - along, high=it.high - along)
              for it in strokes for across, along in [(x, y) if it.upright else (y, x)]]
-    here = sheet._replace(origins={**sheet.origins, stretch.view: (x, y)})
+    name = layer_of(stretch.layer, sheet.decimals)
+    here = sheet._replace(origins={**sheet.origins, name: (x, y)})
     start, end = ((stretch.at, at) if stretch.upright else (at, stretch.at) for at in (stretch.low, stretch.high))
-    place = " to ".join(f"({right}, {up})" for right, up in (here.place(stretch.view, *it) for it in (start, end)))
-    lines = here.told(stretch.view, start, end, lines_of(stretch, moved))
-    return f"{stretch.view} {place}{lines}: {was_drawn(stretch.drawn)}; the solid shows {STYLES[stretch.shown]}"
+    is_beside = sheet.back and isinstance(stretch.layer, Section)
+    places = [(sheet.length(it[0]), sheet.length(it[1])) if is_beside else here.place(name, *it) for it in (start, end)]
+    place = " to ".join(f"({right}, {up})" for right, up in places)
+    lines = "" if is_beside else here.told(name, start, end, lines_of(stretch, moved))
+    return f"{name} {place}{lines}: {was_drawn(stretch.drawn)}; the solid shows {STYLES[stretch.shown]}"
 
 
-def told(path: pathlib.Path, words: list[object], sheet: Sheet, views: Views, main: bytes, listed: str) -> list[str]:
-    """What is told of a drawing with such further views, where the program lists these solids of its main views, which are the lines of
-    another file."""
-    further = further_of(views, sheet.decimals)
+# ---- sections otherwise than they are drawn
+
+OTHER_SIDE = {"FRONT": "REAR", "REAR": "FRONT", "TOP": "BOTTOM", "BOTTOM": "TOP", "SIDE": "LEFT", "LEFT": "SIDE"}
+Drawn = dict[Layer, Shown]
+
+
+def mirrored(shown: Shown) -> Shown:
+    """What is shown, right and left exchanged."""
+    wide = max(at if upright else high for upright, at, _, _, high in shown)
+    return frozenset((True, wide - at, style, low, high) if upright else (False, at, style, wide - high, wide - low)
+                     for upright, at, style, low, high in shown)
+
+
+def otherwise(further: Drawn, decimals: int) -> Iterator[tuple[str, Drawn]]:
+    """The ways to take one of the sections, lines and area together, otherwise, in words."""
+    planes: dict[tuple[str, Fraction], list[Section]] = defaultdict(list)
+    for layer in further:
+        if isinstance(layer, Section):
+            planes[layer.view, layer.at].append(layer)
+    for (view, _), its in planes.items():
+        names = " and ".join(it.layer(decimals) for it in its)
+        others = {layer: shown for layer, shown in further.items() if layer not in its}
+        yield f"without {names}", others
+        yield f"with {names} seen from the other side, as {OTHER_SIDE[view]}", {**others, **{it._replace(view=OTHER_SIDE[view]): further[it] for it in its}}
+        yield f"with {names} mirrored", {**others, **{it: mirrored(further[it]) for it in its}}
+
+
+def with_layers(main: bytes, further: Drawn) -> bytes:
+    """The main views with further layers, in whole units."""
+    return trials.with_entities(main, (
+        trials.entity(layer_of(layer, 0), DASHED if dashed else SOLID, *((str(x), str(y)) for x, y in ends))
+        for layer, shown in further.items() for dashed, *ends in strokes_shown(shown, 0, 0)
+    ))
+
+
+def otherwise_told(ask: Callable[[Drawn], trials.Outcome], further: Drawn, decimals: int) -> list[str]:
+    """What is told of sections that are taken otherwise, where a drawing has some."""
+    ways = [(words, ask(its)) for words, its in otherwise(further, decimals)]
+    rows = [f"{words[0].upper()}{words[1:]}: the program lists {outcome.words}." for words, outcome in ways if outcome.count or outcome.more]
+    return rows if rows or not ways else ["None has them without one of the sections, or with it seen from the other side or mirrored."]
+
+
+def told(path: pathlib.Path, words: list[object], sheet: Sheet, drawn: Mapping[Layer, Sequence[Line]], main: bytes, listed: str) -> list[str]:
+    """What is told of a drawing with such further views and sections, told by their lines, where the program lists these solids of its main
+    views, which are the lines of another file."""
+    strokes = {layer: strokes_of(layer_of(layer, sheet.decimals), its, sheet.decimals) for layer, its in drawn.items()}
+    further = {layer: shown_by(its) for layer, its in strokes.items()}
+
+    def ask(layers: Drawn) -> trials.Outcome:
+        return trials.outcome(path, [*words, program.SECTIONS], with_layers(main, layers), program.MOST_NODES, program.MOST_SOLIDS)
+
     solids = answer_of(listed, MOST).solids
     unlike: list[list[Stretch]] = []
     fitting = dict.fromkeys(further, 0)
     for number, solid in enumerate(solids, 1):
         Progress.show(f"solid {number:,} of {len(solids):,}")
-        shown = shown_by_solid(solid, list(further))
-        unlike.append([it for view in further for it in stretches_unlike(view, further[view], shown[view])])
-        for view in further:
-            fitting[view] += shown[view] == further[view]
+        shown = shown_by_solid(solid, further)
+        unlike.append([it for layer in further for it in stretches_unlike(layer, further[layer], shown[layer])])
+        for layer in further:
+            fitting[layer] += shown[layer] == further[layer]
     Progress.clear()
     nearest = min(range(len(solids)), key=lambda number: sum(it.length for it in unlike[number]))
     if not unlike[nearest]:
         raise Refused("the program says that no solid has these views, and one was found here that has them")
-    counts = ", ".join(f"{many(count, 'has', 'have')} {view}" for view, count in fitting.items())
+    counts = ", ".join(f"{many(count, 'has', 'have')} {layer_of(layer, sheet.decimals)}" for layer, count in fitting.items())
     rows = [f"No solid has these views. {many(len(solids), 'solid has', 'solids have')} the {'two' if sheet.missing else 'three'} main ones; of these {counts}.",
+            *otherwise_told(ask, further, sheet.decimals),
             f"Nearest is solid {nearest + 1} of them, for which there would have to be drawn otherwise:"]
-    strokes = {view: strokes_of(view, views[view], sheet.decimals) for view in further}
-    rows += [f"  {stretch_told(it, sheet, strokes[it.view])}" for it in unlike[nearest]]
-    shown = shown_by_solid(solids[nearest], list(further))
-    lines = (trials.entity(view, DASHED if dashed else SOLID, *((str(x), str(y)) for x, y in ends))
-             for view in further for dashed, *ends in strokes_shown(shown[view], 0, 0))
-    outcome = trials.outcome(path, words, trials.with_entities(main, lines), program.MOST_NODES, program.MOST_SOLIDS)
-    return [*rows, f"  so drawn, the program lists {outcome.words}"]
+    rows += [f"  {stretch_told(it, sheet, strokes[it.layer])}" for it in unlike[nearest]]
+    return [*rows, f"  so drawn, the program lists {ask(shown_by_solid(solids[nearest], further)).words}"]

@@ -7,7 +7,8 @@ told is the program's own. Where no single change gives a solid, clingo looks fo
 otherwise (apt-get install gringo), and the program is run on what it found. That nothing is found is an answer too.
 
 Each view may be taken to begin outside what is drawn of it, where another view reaches farther along the same axis. Where solids have
-the three main views, and none the further ones too, it says what of these the nearest solid shows otherwise.
+the three main views, and none the further ones and the sections too, it says what of these the nearest solid shows otherwise, and whether
+some have them without one of the sections, or with that seen from the other side or mirrored.
 """
 import argparse
 import itertools
@@ -18,11 +19,12 @@ from typing import NamedTuple
 from . import asking, changes, faults, least, picture, program, trials, unfit
 from .answers import FAULT, WHOLE, answer_of
 from .changes import Change, Judged, Kind
-from .drawing import VIEWS, Line, Origin, further_in, views_of, written
+from .drawing import VIEWS, Line, Origin, written
 from .given import Chamfer, Given, given_in
 from .messages import Progress, Refused, many, say, write_result
 from .panels import AXES, BLANK, DASHED, FRAMES, SOLID, STYLES, Grid, Row, Sheet, Stroke, grid_of, runs_of
 from .rounds import Quarter, Slant
+from .section_layers import further_lines, layer_of
 from .tangent import shared_axis
 from .trials import Outcome, Tried
 
@@ -333,12 +335,13 @@ def looked_at(
     return rows + told_least(fewest, sure, limits.search, all_placed[0]), fewest
 
 
-def told_of(asked: asking.Asked, path: pathlib.Path, limits: Limits, tell: Found = said_found) -> tuple[list[str], list[Suggestion]]:
+def told_of(
+    asked: asking.Asked, path: pathlib.Path, limits: Limits, tell: Found = said_found, with_sections: bool = False
+) -> tuple[list[str], list[Suggestion]]:
     """What is told of a drawing or a sheet that no solid has, and the suggestions: where its main views alone have none, of these,
-    and else of its further views."""
-    views = views_of(asked.lines)
-    sheet = asked.sheet()
-    further, given = further_in(asked.lines), given_in(asked.lines)
+    and else of its further views, and of its sections where they are read."""
+    sheet, given = asked.sheet(), given_in(asked.lines)
+    further = further_lines(asked.lines, asked.decimals, with_sections)
     if not further:
         rows, found = looked_at(path, sheet, asked.run.text.partition("\n")[0], limits, tell, given)
         return ([*rows[:1], SQUARED.format(given.kinds), *rows[1:]] if given else rows), found
@@ -347,9 +350,9 @@ def told_of(asked: asking.Asked, path: pathlib.Path, limits: Limits, tell: Found
     alone = program.run(path, [*tried.words, "--nodes", program.MOST_NODES, "--solids", program.MOST_SOLIDS], main)
     head = alone.text.partition("\n")[0]
     if not head.startswith("whole 0 "):
-        return unfit.told(path, tried.words, sheet, views, main, alone.text), []
+        return unfit.told(path, tried.words, sheet, further, main, alone.text), []
     rows, found = looked_at(path, sheet, head, limits, tell)
-    names = f"{' and '.join(further)} {'is' if len(further) == 1 else 'are'}"
+    names = f"{' and '.join(layer_of(it, asked.decimals) for it in further)} {'is' if len(further) == 1 else 'are'}"
     return [f"{rows[0]} Its {'two' if sheet.missing else 'three'} main views alone have none: {names} left out here.", *rows[1:]], found
 
 
@@ -375,7 +378,7 @@ def run(arguments: argparse.Namespace) -> int:
         return 0
     limits = Limits(arguments.runs, arguments.search, arguments.processes)
     path = program.find(arguments.program)
-    rows, found = told_of(asked, path, limits)
+    rows, found = told_of(asked, path, limits, with_sections=arguments.sections)
     write_result("".join(f"{row}\n" for row in rows), None)
     if arguments.write or arguments.picture:
         if not 1 <= arguments.take <= len(found):

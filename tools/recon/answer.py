@@ -201,7 +201,8 @@ class Answer:
             if len(self) or not is_none:
                 return Why(() if len(self) else tuple(looking.rounds_told(self._asked)), ())
             path = program.find(self._arguments.program)
-            rows, found = looking.told_of(self._asked, path, looking.Limits(runs, search, processes), lambda suggestion: None)
+            rows, found = looking.told_of(self._asked, path, looking.Limits(runs, search, processes), lambda suggestion: None,
+                                           self._arguments.sections)
         return Why(tuple(rows), tuple(map(suggestion_of, found)))
 
     def settle(self, meant: int | None = None, by: Sequence[str] = ()) -> Settling:

@@ -15,6 +15,9 @@ from .support import EXAMPLES, draft, needs_command, needs_program
 from .test_cut_solids import FALLING, RISING, shown_by
 from .test_settle import SHALLOW, rectangles
 
+# A square that lacks its lower right quarter, and one that lacks its upper left one.
+LOWEST = "line 0 0 1 0, line 1 0 1 1, line 1 1 2 1, line 2 1 2 2, line 0 2 2 2, line 0 0 0 2"
+MIRRORED = "line 0 0 2 0, line 0 0 0 1, line 0 1 1 1, line 1 1 1 2, line 1 2 2 2, line 2 0 2 2"
 # How many random drawings are settled.
 DRAWINGS = 5
 # What a section of each of the three solids shows that leaves all of it: the square in quarters.
@@ -129,6 +132,42 @@ def volume(text: str) -> float:
     for a, b, c in zip(corners[::3], corners[1::3], corners[2::3]):
         found += (a[0] * (b[1] * c[2] - b[2] * c[1]) - a[1] * (b[0] * c[2] - b[2] * c[0]) + a[2] * (b[0] * c[1] - b[1] * c[0])) / 6
     return found
+
+
+@needs_program()
+class Why(InAFolder):
+    def why(self, *words: object) -> list[str]:
+        ended = draft("why", self.file, "--sections", *words)
+        self.assertEqual(ended.status, 0, ended.said)
+        return ended.out.splitlines()
+
+    def test_a_section_that_rules_all_out(self) -> None:
+        """Mirrored it is that of the first solid, from the other side that of none; without it all three are left."""
+        self.quartered({"SECTION_FRONT_1": MIRRORED})
+        rows = self.why()
+        self.assertEqual(rows[:3], [
+            "No solid has these views. 3 solids have the three main ones; of these 0 have SECTION_FRONT_1.",
+            "Without SECTION_FRONT_1: the program lists 3 solids.",
+            "With SECTION_FRONT_1 mirrored: the program lists 1 solid.",
+        ])
+        self.assertIn("  so drawn, the program lists 1 solid", rows)
+
+    def test_two_of_which_one_is_seen_from_the_other_side(self) -> None:
+        """The area is that of the first of three solids, and the lines are those of the second, or of the first from the other side."""
+        self.quartered({"AREA_TOP_1": LOWEST, "SECTION_FRONT_1": FALLING})
+        self.assertEqual(self.why()[1:4], [
+            "Without AREA_TOP_1: the program lists 1 solid.",
+            "Without SECTION_FRONT_1: the program lists 1 solid.",
+            "With SECTION_FRONT_1 seen from the other side, as REAR: the program lists 1 solid.",
+        ])
+
+    def test_nothing_helps(self) -> None:
+        self.quartered({"SECTION_FRONT_1": "rect 0 0 2 2", "SECTION_TOP_1": "rect 0 0 2 2"})
+        self.assertIn("None has them without one of the sections, or with it seen from the other side or mirrored.", self.why())
+
+    def test_nothing_is_wrong(self) -> None:
+        self.quartered({"SECTION_FRONT_1": FALLING})
+        self.assertEqual(self.why(), ["Nothing is wrong: 1 solid has these views."])
 
 
 @needs_program()
