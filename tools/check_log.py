@@ -1,12 +1,12 @@
 #!/usr/bin/env python3
 """Checks a completeness log without recon, of which it uses nothing: a drawing and behind it its log stand on standard
 input, and what `recon check` says of them is written, with its statuses: `cat drawing.dxf log | tools/check_log.py`.
-With `--two-views` one of the views may show nothing, as recon has it. Behind `yes S` stand the choices of all solids
-that have these views, whoever wrote the log. To believe that, one has to believe what nothing here shows: that such a
-solid lies in the grid between the drawing's coordinates, and fills each block of it whole or not at all and nothing of
-the outside (Wesley and Markowsky 1981); and what `can_draw` says of two columns, which tools/check tries on all of up
-to four cells. All else is done below by the definitions, in the words of docs/DEFINITIONS.md and docs/FORMAT.md. Of a
-log no more than a line is held at a time, and what it has decided."""
+It reads FRONT, TOP and SIDE alone, which it says on standard error: not what further views and sections rule out. With
+`--two-views` one of the three may show nothing, as recon has it. Behind `yes S` stand the choices of all solids that
+have these views, whoever wrote the log. To believe that, one has to believe what nothing here shows: that such a solid
+lies in the grid between the drawing's coordinates, and fills each block of it whole or not at all and nothing of the
+outside (Wesley and Markowsky 1981); and what `can_draw` says of two columns, which tools/check tries on all of up to
+four cells. All else is done by the definitions, in the words of docs/DEFINITIONS.md and docs/FORMAT.md."""
 import itertools
 import re
 import sys
@@ -26,8 +26,7 @@ NUMERAL = re.compile(rb"([+-]?)(?=\.?[0-9])([0-9]*)(?:\.([0-9]*))?(?:[Ee]([+-]?)
 NUMBER = rb"(0|[1-9][0-9]{0,9})"
 PLACE = rb"((?:front|top|side) [lu] (?:0|[1-9][0-9]{0,9}) (?:0|[1-9][0-9]{0,9}))"
 ENTRY = re.compile(rb"solid|fail %b|split %b|force %b ([01]) %b" % (PLACE, NUMBER, NUMBER, PLACE))
-END = re.compile(rb"end " + NUMBER)
-BINARY, MARK = b"AutoCAD Binary DXF", b"\xef\xbb\xbf"
+END, BINARY, MARK = re.compile(rb"end " + NUMBER), b"AutoCAD Binary DXF", b"\xef\xbb\xbf"
 
 class Pair(NamedTuple):
     """A pair of a file: the number of its code's line, its code and value, and the place in the text behind it."""
@@ -437,6 +436,7 @@ def main(words: list[str]) -> int:
         return USAGE
     failed = NO_INPUT
     try:
+        print("check_log.py reads the views FRONT, TOP and SIDE alone", file=sys.stderr, flush=True)
         with open(0, "rb", closefd=False) as source:
             text = source.read(MOST_BYTES + 1)
         failed, (status, told) = NO_OUTPUT, answer(text, len(words))

@@ -423,14 +423,15 @@ class Streams(unittest.TestCase):
         return ended.returncode, ended.stdout, ended.stderr
 
     def test_statuses(self) -> None:
-        self.assertEqual(self.run_it(CUBE + RIGHT_CUBE), (0, b"yes 1\nchoice 1\n", b""))
-        self.assertEqual(self.run_it(CUBE), (9, b"log G7 Short line 1\n", b""))
-        self.assertEqual(self.run_it(), (1, b"fault F4 NoEof line 1\n", b""))
+        reads = b"check_log.py reads the views FRONT, TOP and SIDE alone\n"
+        self.assertEqual(self.run_it(CUBE + RIGHT_CUBE), (0, b"yes 1\nchoice 1\n", reads))
+        self.assertEqual(self.run_it(CUBE), (9, b"log G7 Short line 1\n", reads))
+        self.assertEqual(self.run_it(), (1, b"fault F4 NoEof line 1\n", reads))
         status, out, told = self.run_it(CUBE, "--help")
         self.assertEqual((status, out, told[:6]), (2, b"", b"usage:"))
-        self.assertEqual(self.run_it(CUBE + RIGHT_CUBE, out="/dev/full"), (6, b"", b""))
+        self.assertEqual(self.run_it(CUBE + RIGHT_CUBE, out="/dev/full"), (6, b"", reads))
         closed = subprocess.run(["sh", "-c", 'exec "$0" "$1" <&-', sys.executable, str(TOOLS / "check_log.py")], capture_output=True)
-        self.assertEqual((closed.returncode, closed.stdout, closed.stderr), (5, b"", b""))
+        self.assertEqual((closed.returncode, closed.stdout, closed.stderr), (5, b"", reads))
 
     def test_inputs_of_no_sense(self) -> None:
         chance = random.Random(5)

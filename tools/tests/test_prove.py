@@ -31,7 +31,7 @@ class InAFolder(unittest.TestCase):
         self.assertEqual((ended.status, ended.out), (0, ""), (file, ended.said))
         command = [sys.executable, str(TOOLS / "check_log.py")]
         judged = subprocess.run(command, input=self.drawn.read_bytes() + self.log.read_bytes(), capture_output=True)
-        self.assertEqual((judged.returncode, judged.stderr), (0, b""), (file, judged.stdout[:80]))
+        self.assertEqual((judged.returncode, judged.stderr.count(b"\n")), (0, 1), (file, judged.stdout[:80], judged.stderr))
         return judged.stdout.decode()
 
     def checked(self, file: pathlib.Path, *words: object) -> str:
