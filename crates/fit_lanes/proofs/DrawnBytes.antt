@@ -1,12 +1,9 @@
 -- The bytes that columns draw at the points of a grid are those of the turned solid's drawing.
-use Rattle.std.proofs.Common.{◌≡◌, ◌⊎◌, inl, inr, Bool, true, false, ℕ, zero, suc, ◌+◌, ◌-◌, ◌*◌, ◌/◌, ◌%◌, ◌<◌, ◌≤◌, List, [], length, slice_index_or, Option, ℤ, pos, negsuc, refl, ap, sym, subst, ◌∙◌, arith}
+use Rattle.std.proofs.Common.{◌≡◌, ◌⊎◌, inl, inr, Bool, true, false, ℕ, zero, suc, ◌+◌, ◌-◌, ◌*◌, ◌/◌, ◌%◌, ◌<◌, ◌≤◌, List, length, slice_index_or, ℤ, pos, negsuc, refl, ap, sym, subst, ◌∙◌, arith}
 use Rattle.std.proofs.lemmas.Bool.{cases_lt}
 use Rattle.std.proofs.lemmas.Nat.{div-mul-add, mod-mul-add, mul-add-lt}
 use Rattle.std.proofs.Math.Nat.{mul_comm, suc-mul}
 use Rattle.lemmas.specs.Bits.{is_set, bits}
-use Rattle.cell_rows.specs.declared.span.Span.{Span}
-use Rattle.cell_rows.specs.Spans.{is_filled, AreFilled}
-use Rattle.solid_model.specs.Choices.{cells_of_choice}
 use Rattle.solid_model.specs.Columns.{ColumnsDraw}
 use Rattle.solid_model.specs.WalledBoxes.{Sizes}
 use Rattle.solid_model.specs.declared.segment.Style.{Style}
@@ -20,7 +17,7 @@ use Rattle.column_laws.proofs.GridSegments.{empty_bits}
 use Rattle.dxf_entities.specs.declared.layer.Layer.{Layer}
 use Rattle.six_views.specs.SightFrames.{sight_frame}
 use Rattle.fit_lanes.specs.Points.{places_before}
-use Rattle.fit_lanes.specs.Sights.{width, height, AreSights}
+use Rattle.fit_lanes.specs.Sights.{width, height, AreSeenColumns}
 use Rattle.fit_lanes.specs.Tests.{AreDrawn}
 
 -- columns that don't differ draw nothing
@@ -37,8 +34,7 @@ no_bits n none = λ t k. by k t
     by (pos k) = none k ∙ sym (empty_bits (pos k))
     by (negsuc k) = refl
 
-module _ (x : Layer) (sizes : Sizes) (numbers : List (Option ℕ)) (sights : List (List Span)) (are : AreSights x sizes numbers sights)
-    (choice : List Bool) (columns : List ℕ) (filled : AreFilled choice sights columns) where
+module _ (x : Layer) (sizes : Sizes) (chosen : List Bool) (columns : List ℕ) (seen : AreSeenColumns x sizes chosen columns) where
   abbrev f : Frame
   f = sight_frame x
 
@@ -48,9 +44,6 @@ module _ (x : Layer) (sizes : Sizes) (numbers : List (Option ℕ)) (sights : Lis
   abbrev h : ℕ
   h = height x sizes
 
-  abbrev chosen : List Bool
-  chosen = cells_of_choice numbers choice
-
   abbrev column : ℕ → ℤ → Bool
   column p = bits (slice_index_or columns p 0)
 
@@ -59,8 +52,8 @@ module _ (x : Layer) (sizes : Sizes) (numbers : List (Option ℕ)) (sights : Lis
     abbrev place : ℕ
     place = j * (w + 1) + i
 
-    there : place < length sights
-    there = omega (arith, mul-add-lt j (w + 1) i (h + 2) m l, are.count, mul_comm (w + 1) (h + 2))
+    there : place < length columns
+    there = omega (arith, mul-add-lt j (w + 1) i (h + 2) m l, seen.count, mul_comm (w + 1) (h + 2))
 
     its_column : place % (w + 1) ≡ i
     its_column = mod-mul-add j (w + 1) i l
@@ -71,17 +64,14 @@ module _ (x : Layer) (sizes : Sizes) (numbers : List (Option ℕ)) (sights : Lis
     -- beside cells it is theirs,
     column_is : i < w → 1 ≤ j → j ≤ h → (k : ℤ) → column place k ≡ grid_column f sizes chosen i (j - 1) k
     column_is a b c (negsuc k) = refl
-    column_is a b c (pos k) = filled place k there
-        ∙ (are.each place there).inside (subst (λ n. n < w) (sym its_column) a) (subst (λ n. 1 ≤ n) (sym its_row) b) (subst (λ n. n ≤ h) (sym its_row) c) choice k
+    column_is a b c (pos k) =
+        seen.inside place there (subst (λ n. n < w) (sym its_column) a) (subst (λ n. 1 ≤ n) (sym its_row) b) (subst (λ n. n ≤ h) (sym its_row) c) k
         ∙ (λ t. grid_column f sizes chosen (its_column t) (its_row t - 1) (pos k))
 
     -- and else there is none
     column_none : (w ≤ i) ⊎ ((j ≡ 0) ⊎ (h < j)) → column place ≡ bits 0
-    column_none out = no_bits (slice_index_or columns place 0) (λ k. filled place k there ∙ ap (λ spans. is_filled choice spans k) none)
-      where
-        none : slice_index_or sights place [] ≡ []
-        none = (are.each place there).outside (subst (λ n. (w ≤ n) ⊎ ((place / (w + 1) ≡ 0) ⊎ (h < place / (w + 1)))) (sym its_column)
-            (subst (λ n. (w ≤ i) ⊎ ((n ≡ 0) ⊎ (h < n))) (sym its_row) out))
+    column_none out = no_bits (slice_index_or columns place 0) (seen.outside place there (subst (λ n. (w ≤ n) ⊎ ((place / (w + 1) ≡ 0) ⊎ (h < place / (w + 1)))) (sym its_column)
+        (subst (λ n. (w ≤ i) ⊎ ((n ≡ 0) ⊎ (h < n))) (sym its_row) out)))
 
   -- a word of the column beside a point, as the column beside a line
   record IsBeside (upright : Bool) (start line p : ℕ) : Type 0 where

@@ -3,9 +3,12 @@ pub mod WantedRuns
 pub mod WantedBytes
 pub mod DrawnBytes
 pub mod BusyPoints
+pub mod LeftBits
+pub mod LeftColumns
 pub mod ShownOnGrid
 pub mod GridFacts
 pub mod SightRows
 pub mod MovedStyles
 pub mod Told
+pub mod Rooms
 pub mod AllTold

@@ -1,7 +1,6 @@
--- A solid that begins where the grid does shows a further view exactly where it draws the wanted bytes.
-use Rattle.std.proofs.Common.{◌≡◌, ◌≢◌, ◌↔◌, inl, inr, ⊎_elim, Bool, true, false, nat_lt, if◌then◌else◌, ℕ, ◌+◌, ◌-◌, ◌*◌, ◌/◌, ◌%◌, ◌<◌, ◌≤◌, List, [], ◌∷◌, length, map, slice_index_or, Option, Some, None, ℤ, pos, ◌<ℤ◌, ◌≤ℤ◌, refl, ap, sym, subst, ◌∙◌, arith}
+-- A solid shows a layer whole exactly where it draws the bytes that are wanted from the first lines on that it draws.
+use Rattle.std.proofs.Common.{◌≡◌, ◌≢◌, ◌↔◌, ◌⊎◌, inl, inr, ⊎_elim, Bool, true, false, nat_lt, if◌then◌else◌, ℕ, suc, ◌+◌, ◌-◌, ◌*◌, ◌/◌, ◌%◌, ◌<◌, ◌≤◌, List, [], ◌∷◌, length, map, slice_index_or, ℤ, pos, ◌<ℤ◌, ◌≤ℤ◌, refl, ap, sym, subst, ◌∙◌, arith}
 use Rattle.std.specs.List.{range_with_len}
-use Rattle.std.specs.Prelude.{MatchOption}
 use Rattle.std.proofs.lemmas.Bool.{lt-ltb, cases_lt, false≢true}
 use Rattle.std.proofs.lemmas.Int.{ints}
 use Rattle.std.proofs.lemmas.List.{length-map, get_or-map}
@@ -26,17 +25,20 @@ use Rattle.solid_model.specs.Grid.{Coordinates, is_in_gap, IsInSomeGap, gaps_alo
 use Rattle.solid_model.specs.Moved.{BeginsAt}
 use Rattle.solid_model.specs.PerView.{of_view}
 use Rattle.solid_model.specs.Runs.{run_style, AreRuns, ViewRuns, runs_along}
-use Rattle.solid_model.specs.Segments.{along_of, across_of, segment_at}
+use Rattle.solid_model.specs.Segments.{along_of, across_of, line_of, segment_at}
 use Rattle.solid_model.proofs.Gaps.{member, lies_in, begins_gap, earlier_at_most}
 use Rattle.solid_model.proofs.InGrid.{gap_or_none}
 use Rattle.solid_model.proofs.OnGrid.{StaysOnGrid}
 use Rattle.solid_model.proofs.SameOnGrid.{member_or_not}
-use Rattle.solid_model.proofs.Styles.{cell_beside_drawn, drawn_style_drawn}
+use Rattle.solid_model.proofs.Styles.{cell_beside_drawn, drawn_style_drawn, one_style}
 use Rattle.solid_model.proofs.Views.{views_are_frames}
+use Rattle.solid_model.proofs.WithinViews.{Least, IsOutermost, outermost}
 use Rattle.column_lanes.specs.Styles.{style_byte}
+use Rattle.column_lanes.proofs.StyleBytes.{same_style}
 use Rattle.column_laws.specs.GridColumns.{grid_column}
 use Rattle.column_laws.specs.GridPanels.{HasCounts, IsColumnBeside, AreColumnsBeside, IsStyleBetween}
 use Rattle.column_laws.proofs.GridSegments.{segment_drawn}
+use Rattle.redraw.proofs.SolidBegins.{outermost_drawn}
 use Rattle.redraw.proofs.SomeFile.{some_file}
 use Rattle.dxf_entities.specs.declared.layer.Layer.{Layer}
 use Rattle.six_views.specs.Fits.{ShowsMoved}
@@ -44,14 +46,16 @@ use Rattle.further_views.specs.Further.{view_style}
 use Rattle.six_views.specs.SightFrames.{sight_frame}
 use Rattle.six_views.specs.MovedRuns.{AreMovedRuns}
 use Rattle.six_views.specs.Turned.{turned_cells, turned_coordinates, AreTurnedCells}
+use Rattle.six_views.proofs.FirstRuns.{line_at}
 use Rattle.six_views.proofs.MovedRuns.{shows_where_moved}
 use Rattle.six_views.proofs.SeenTurned.{some_turned, turned_union, seen_on_grid}
 use Rattle.six_views.proofs.Turned.{sight_drawn}
 use Rattle.six_views.proofs.TurnedColumns.{column_turned}
 use Rattle.six_views.proofs.TurnedGrid.{count-turned, counts-turned}
+use Rattle.fit_lanes.specs.Drawn.{DrawsLine, DrawsNoLine, IsFirstLine}
 use Rattle.fit_lanes.specs.Points.{point_byte, ArePointBytes}
 use Rattle.fit_lanes.specs.Sights.{width, height}
-use Rattle.fit_lanes.specs.Wanted.{first_coordinate, placed_runs, HaveRuns, turned_lines, turned_ends, AreWantedBytes, AreNeverDrawn}
+use Rattle.fit_lanes.specs.Wanted.{HaveRuns, turned_lines, turned_ends, TellRuns, ArePlaced}
 use Rattle.fit_lanes.proofs.WantedBytes.{lines_count, ends_count}
 
 -- both views have the same axes
@@ -78,6 +82,40 @@ same_along x upright = by x.view x.opposite upright
     by Top true false = refl
     by Side true true = refl
     by Side true false = refl
+
+at_most : (m n : ℕ) → m < n + 1 → m ≤ n
+at_most m n l = omega arith
+
+below : (m n : ℕ) → m ≤ n → m < n + 1
+below m n l = omega arith
+
+before_last : (m n : ℕ) → suc m < n → m < n - 1
+before_last m n l = omega arith
+
+-- ---- points of lines, of a view of so many cells with these bytes and styles by line and cell
+
+module _ {w h : ℕ} where
+  to_line : (u : Bool) (bytes : List ℕ) (style : ℕ → ℕ → Style)
+      → ((i j : ℕ) → i ≤ w → j ≤ h → along_of u i j < along_of u w h → style (across_of u i j) (along_of u i j) ≢ Blank → slice_index_or bytes (j * (w + 1) + i) 0 ≢ 0)
+      → (line cell : ℕ) → line ≤ across_of u w h → cell < along_of u w h → style line cell ≢ Blank → DrawsLine w h u bytes line
+  to_line true bytes style some line cell l m drawn = (
+    cell,
+    omega arith,
+    λ e. some line cell l (omega arith) m drawn (ap (λ p. slice_index_or bytes p 0) (let p : cell * (w + 1) + line ≡ line + cell * (w + 1) = omega arith in p) ∙ e),
+  )
+  to_line false bytes style some line cell l m drawn = (
+    cell,
+    omega arith,
+    λ e. some cell line (omega arith) l m drawn (ap (λ p. slice_index_or bytes p 0) (let p : line * (w + 1) + cell ≡ line * (w + 1) + cell * 1 = omega arith in p) ∙ e),
+  )
+
+  from_line : (u : Bool) (bytes : List ℕ) (style : ℕ → ℕ → Style)
+      → ((i j : ℕ) → i ≤ w → j ≤ h → slice_index_or bytes (j * (w + 1) + i) 0 ≢ 0 → style (across_of u i j) (along_of u i j) ≢ Blank)
+      → (line : ℕ) → line ≤ across_of u w h → DrawsLine w h u bytes line → (cell : ℕ) × (style line cell ≢ Blank)
+  from_line true bytes style drawn line l (n, m, some) =
+      (n, drawn line n l (omega arith) (λ e. some (ap (λ p. slice_index_or bytes p 0) (let p : line + n * (w + 1) ≡ n * (w + 1) + line = omega arith in p) ∙ e)))
+  from_line false bytes style drawn line l (n, m, some) =
+      (n, drawn n line (omega arith) l (λ e. some (ap (λ p. slice_index_or bytes p 0) (let p : line * (w + 1) + n * 1 ≡ line * (w + 1) + n = omega arith in p) ∙ e)))
 
 module _ (x : Layer) (coordinates : Coordinates) (ordered : (a : Axis) → Ascends ◌<ℤ◌ (coordinates a)) (some : (a : Axis) → 0 < length (coordinates a))
     (chosen : List Bool) (s : List Cell) (union : IsUnionOf coordinates chosen (is_full s)) where
@@ -189,6 +227,13 @@ module _ (x : Layer) (coordinates : Coordinates) (ordered : (a : Axis) → Ascen
     };
   }
 
+  -- what is drawn has a full cell beside it
+  pub full_by_drawn : (g : Segment) → g.view ≡ v → drawing g ≢ Blank → (c : Cell) × (is_full (turned_cells x s) c ≡ true)
+  full_by_drawn g of drawn =
+      let b = cell_beside_drawn (frame_of g.view) (views_are_frames g.view) (is_full (turned_cells x s)) g (drawing g)
+      (drawn_style_drawn (frame_of g.view) (views_are_frames g.view) (turned_cells x s) g) drawn in
+      (b.cell, b.is_full)
+
   -- ---- what columns draw
 
   beside_turned : (upright : Bool) (start line n : ℕ) → start < sizes (along main upright).axis → IsColumnBeside f sizes chosen upright start line n
@@ -262,49 +307,92 @@ module _ (x : Layer) (coordinates : Coordinates) (ordered : (a : Axis) → Ascen
       | inr n ↦ some_byte (none i j l m n)
     ]
 
-  -- ---- where it begins
+    -- ---- on which lines
 
-  first_line : (zs : List ℤ) → Ascends ◌<ℤ◌ zs → (z : ℤ) → Member zs z → first_coordinate zs ≤ℤ z
-  first_line zs ascends z k =
-      let at = member-place zs z k in
-      subst (λ y. first_coordinate zs ≤ℤ y) (at.2 (pos 0)) (earlier_at_most zs ascends 0 at.0 (omega arith) at.1)
+    -- a style that is drawn has a byte that isn't 0,
+    byte_drawn : (i j : ℕ) → i ≤ w → j ≤ h → along_of upright i j < along_of upright w h
+        → style_from upright (across_of upright i j) (along_of upright i j) ≢ Blank → slice_index_or bytes (j * (w + 1) + i) 0 ≢ 0
+    byte_drawn i j l m n drawn e = drawn (same_style _ Blank (sym (byte_at i j l m n) ∙ e))
 
-  first_end : (zs : List ℤ) → Ascends ◌<ℤ◌ zs → (z : ℤ) → IsInSomeGap zs z → first_coordinate zs ≤ℤ z
-  first_end zs ascends z gap =
-      let lies = lies_in zs gap.0 z gap.1 in
-      let low = earlier_at_most zs ascends 0 gap.0 (omega arith) (omega (arith, lies.within)) in
-      omega (arith, ints, low, lies.low)
+    -- and so its line is drawn
+    line_drawn : (line cell : ℕ) → line ≤ across_of upright w h → cell < along_of upright w h → style_from upright line cell ≢ Blank → DrawsLine w h upright bytes line
+    line_drawn = to_line upright bytes (style_from upright) byte_drawn
 
-  from_line : (upright : Bool) (start line : ℤ) → drawing (segment_at v upright start line) ≢ Blank → first_coordinate (lines upright) ≤ℤ line
-  from_line upright start line drawn = ⊎_elim (first_line (lines upright) (grid_ordered (across f upright).axis) line)
-      (λ none. absurd (drawn (off_lines upright start line none))) (member_or_not (lines upright) line)
+    drawn_line : (line : ℕ) → line ≤ across_of upright w h → DrawsLine w h upright bytes line → (cell : ℕ) × (style_from upright line cell ≢ Blank)
+    drawn_line = from_line upright bytes (style_from upright) drawn_at
 
-  from_end : (upright : Bool) (start line : ℤ) → drawing (segment_at v upright start line) ≢ Blank → first_coordinate (ends upright) ≤ℤ start
-  from_end upright start line drawn = ⊎_elim (first_end (ends upright) (grid_ordered (along f upright).axis) start)
-      (λ none. absurd (drawn (off_ends upright start line none))) (gap_or_none (ends upright) (grid_ordered (along f upright).axis) start)
+    -- an outermost edge is drawn on a line of the grid
+    module _ (o : IsOutermost main (turned_cells x s) v upright Least) where
+      record IsOnLine : Type 0 where
+        number : ℕ
+        within : number ≤ across_of upright w h
+        same : member (lines upright) number ≡ o.line
+        there : DrawsLine w h upright bytes number
 
-  abbrev right : ℤ
-  right = first_coordinate (lines true)
+      on_line : IsOnLine
+      on_line = by (member_or_not (lines upright) o.line) (gap_or_none (ends upright) (grid_ordered (along f upright).axis) o.start)
+        where
+          drawn : drawing (segment_at v upright o.start o.line) ≢ Blank
+          drawn = outermost_drawn (turned_cells x s) v upright o
 
-  abbrev up : ℤ
-  up = first_coordinate (lines false)
+          by : Member (lines upright) o.line ⊎ (Member (lines upright) o.line → ⊥) → IsInSomeGap (ends upright) o.start ⊎ (IsInSomeGap (ends upright) o.start → ⊥) → IsOnLine
+          by (inr none) gap = absurd (drawn (off_lines upright o.start o.line none))
+          by (inl k) (inr none) = absurd (drawn (off_ends upright o.start o.line none))
+          by (inl k) (inl gap) =
+              let es = ends upright in
+              let at = member-place (lines upright) o.line k in
+              let lies = (lies_in es gap.0 o.start gap.1).within in
+              let same : member (lines upright) at.0 ≡ o.line = at.2 (pos 0) in
+              let within = at_most at.0 (across_of upright w h) (subst (λ k. at.0 < k) (lines_count x coordinates some upright) at.1) in
+              let few = subst (λ k. gap.0 < k) (ends_count x coordinates some upright) (before_last gap.0 (length es) lies) in
+              record {
+                number = at.0;
+                within = within;
+                same = same;
+                there = line_drawn at.0 gap.0 within few (λ blank. drawn
+                    (steady upright gap.0 o.start (member es gap.0) o.line gap.1 (begins_gap es (grid_ordered (along f upright).axis) gap.0 lies)
+                    ∙ ap (λ z. drawing (segment_at v upright (member es gap.0) z)) (sym same) ∙ blank));
+              }
 
-  stands_at : (upright : Bool) (a b : ℤ) → drawing (record { view = v; upright = upright; right = a; up = b }) ≢ Blank → (right ≤ℤ a) × (up ≤ℤ b)
-  stands_at true a b drawn = (from_line true b a drawn, from_end true b a drawn)
-  stands_at false a b drawn = (from_end false a b drawn, from_line false a b drawn)
+      -- which is the first that is drawn
+      first_is : (line : ℕ) → IsFirstLine w h upright bytes line → o.line ≡ member (lines upright) line
+      first_is line first =
+          let there = on_line in
+          let c = drawn_line line first.within first.drawn in
+          let zs = lines upright in
+          let g : Segment = segment_at v upright (member (ends upright) c.0) (member zs line) in
+          let b = cell_beside_drawn main (views_are_frames v) (is_full (turned_cells x s)) g (drawing g) (drawn_style_drawn main (views_are_frames v) (turned_cells x s) g) c.1 in
+          let at = line_at v upright (member (ends upright) c.0) (member zs line) in
+          let inner = o.inner b.cell b.is_full in
+          let high : o.line ≤ℤ member zs line = ⊎_elim {C = o.line ≤ℤ member zs line} (λ e. omega (arith, ints, at, inner)) (λ e. omega (arith, ints, at, inner)) b.at_line in
+          let early : line ≤ there.number = elim (cases_lt there.number line) as (λ _. line ≤ there.number) [ inl l ↦ absurd (first.first there.number l there.there) | inr l ↦ l ] in
+          let few = subst (λ k. there.number < k) (sym (lines_count x coordinates some upright)) (below there.number (across_of upright w h) there.within) in
+          let low = earlier_at_most zs (grid_ordered (across f upright).axis) line there.number early few in
+          omega (arith, ints, low, high, there.same)
 
-  -- where something is drawn on the first level line and on the first upright one
-  pub begins_there : (cell : ℕ) → style_from true 0 cell ≢ Blank → (other : ℕ) → style_from false 0 other ≢ Blank → BeginsAt drawing v right up
-  begins_there cell on_left other on_bottom = record {
-    stands_from = λ g of drawn. stands_at g.upright g.right g.up
-        (subst (λ u. drawing (record { view = u; upright = g.upright; right = g.right; up = g.up }) ≢ Blank) of drawn);
-    at_left = (segment_at v true (member (ends true) cell) right, refl, on_left, refl);
-    at_bottom = (segment_at v false (member (ends false) other) up, refl, on_bottom, refl);
-  }
+    -- where a cell is full some line is drawn
+    pub some_line : (c : Cell) → is_full (turned_cells x s) c ≡ true → DrawsNoLine w h upright bytes → ⊥
+    some_line c full none =
+        let there = on_line (outermost main (views_are_frames v) (turned_cells x s) v upright Least c full) in
+        none there.number there.within there.there
+
+    -- a drawn line has a full cell beside it
+    pub full_beside : (line : ℕ) → IsFirstLine w h upright bytes line → (c : Cell) × (is_full (turned_cells x s) c ≡ true)
+    full_beside line first =
+        let c = drawn_line line first.within first.drawn in
+        full_by_drawn (segment_at v upright (member (ends upright) c.0) (member (lines upright) line)) refl c.1
+
+    -- the first drawn line is that of the outermost edges
+    pub outermost_at : (line : ℕ) → IsFirstLine w h upright bytes line → (c : Cell) → is_full (turned_cells x s) c ≡ true
+        → (o : IsOutermost main (turned_cells x s) v upright Least) × (o.line ≡ member (lines upright) line)
+    outermost_at line first c full =
+        let o = outermost main (views_are_frames v) (turned_cells x s) v upright Least c full in
+        (o, first_is o line first)
 
   -- ---- what is shown
 
-  module _ (shown : ViewRuns) (kept : (upright : Bool) → AreRuns (runs_along upright shown)) (begins : BeginsAt drawing v right up) where
+  module _ (shown : ViewRuns) (kept : (upright : Bool) → AreRuns (runs_along upright shown)) (right up : ℕ)
+      (begins : BeginsAt drawing v (member (lines true) right) (member (lines false) up)) where
     -- the runs of the view, which show it
     pub record OwnRuns : Type 0 where
       pub own : ViewRuns
@@ -338,23 +426,23 @@ module _ (x : Layer) (coordinates : Coordinates) (ordered : (a : Axis) → Ascen
     show_at false j z = own_runs.show (segment_at v false z j) refl
 
     abbrev pub Placed : Bool → Type 0
-    Placed upright = runs_along upright own_runs.own ≡ placed_runs (lines upright) (ends upright) (runs_along upright shown)
+    Placed upright = ArePlaced coordinates x shown right up upright (runs_along upright own_runs.own)
 
-    -- the wanted bytes are drawn exactly where the runs are the shown ones, moved
-    pub told_runs : {A : Type 0} (items : A → List ℕ) (upright : Bool) (bytes : List ℕ) → ArePointBytes w h upright (styles upright) bytes → (wanted : Option A)
-        → MatchOption wanted (AreNeverDrawn coordinates x upright shown) (λ b. AreWantedBytes coordinates x upright shown (items b))
-        → MatchOption wanted ⊥ (λ b. bytes ≡ items b) ↔ Placed upright
-    told_runs items upright bytes tell None never =
-        ((λ none. absurd none), λ placed. never bytes (runs_along upright own_runs.own) (styles upright, have_runs upright _ (own_runs.runs upright) (show_at upright), tell) placed)
-    told_runs items upright bytes tell (Some b) are =
-        let both = are bytes (runs_along upright own_runs.own) (styles upright, have_runs upright _ (own_runs.runs upright) (show_at upright), tell) in
-        (both.1, both.0)
+    -- bytes of its styles tell its runs
+    pub tell_own : (upright : Bool) (bytes : List ℕ) → ArePointBytes w h upright (styles upright) bytes → TellRuns coordinates x upright bytes (runs_along upright own_runs.own)
+    tell_own upright bytes tell = (styles upright, have_runs upright _ (own_runs.runs upright) (show_at upright), tell)
 
-    moved_of : Placed false → Placed true → AreMovedRuns right up shown own_runs.own
+    moved_of : Placed false → Placed true → AreMovedRuns (member (lines true) right) (member (lines false) up) shown own_runs.own
     moved_of level upright true = upright
     moved_of level upright false = level
 
     pub shows_where_placed : (Placed false × Placed true) ↔ ShowsMoved f (is_full s) (view_style shown) v
     shows_where_placed =
-        let both = shows_where_moved f (is_full s) v drawing (sight_drawn x s) own_runs.own shown own_runs.runs kept own_runs.show right up begins in
+        let both = shows_where_moved f (is_full s) v drawing (sight_drawn x s) own_runs.own shown own_runs.runs kept own_runs.show (member (lines true) right) (member (lines false) up) begins in
         ((λ placed. both.1 (moved_of placed.0 placed.1)), (λ shows. (both.0 shows false, both.0 shows true)))
+
+  -- where no cell is full nothing is shown
+  pub shows_some : (shown : Segment → Style) → ShowsMoved f (is_full s) shown v → (c : Cell) × (is_full (turned_cells x s) c ≡ true)
+  shows_some shown (other, draws, (right, up, begins, moved)) =
+      let at = begins.at_left in
+      full_by_drawn at.0 at.1 (λ blank. at.2 (one_style f (is_full s) at.0 _ _ (draws at.0 at.1) (sight_drawn x s at.0 at.1) ∙ blank))

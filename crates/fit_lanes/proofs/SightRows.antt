@@ -82,7 +82,7 @@ seen_more choice xs ys one seen k n within same cells so_far =
 -- ---- the column of a view
 
 -- the frame of a view, from its own side or from the opposite one
-abbrev seen_from : Bool → View → Frame
+abbrev pub seen_from : Bool → View → Frame
 seen_from opposite v = if opposite then opposite_frame v else frame_of v
 
 module _ (x : Layer) (b : BlockNumbers) (n : PerAxis) (i j : ℕ) where

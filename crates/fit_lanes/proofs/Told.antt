@@ -1,34 +1,33 @@
--- What the test of a view tells.
-use Rattle.std.proofs.Common.{◌≡◌, ◌≢◌, ◌↔◌, Bool, true, false, ◌&&◌, ℕ, suc, ◌+◌, ◌*◌, ◌≤◌, if◌then◌else◌, List, length, slice_index_or, Option, IsTrue, ap, ◌∙◌, arith}
-use Rattle.std.specs.Prelude.{MatchOption}
-use Rattle.std.proofs.lemmas.Bool.{and_parts, and_from}
-use Rattle.std.proofs.Math.Nat.{suc-mul, zero-mul}
-use Rattle.cell_rows.specs.declared.span.Span.{Span}
-use Rattle.cell_rows.specs.Spans.{AreFilled}
+-- What the bytes that are drawn of a solid tell of what it shows.
+use Rattle.std.proofs.Common.{◌≡◌, ◌↔◌, Bool, true, false, ℕ, suc, ◌+◌, ◌*◌, List, length, IsTrue, ap, subst, ◌∙◌, arith}
+use Rattle.std.proofs.Math.Nat.{suc-mul}
 use Rattle.solid_model.specs.declared.cell.Cell.{Cell}
-use Rattle.solid_model.specs.declared.segment.Style.TheVariants.{Blank}
+use Rattle.solid_model.specs.declared.runs.Run.{Run}
+use Rattle.solid_model.specs.declared.segment.Segment.{Segment}
+use Rattle.solid_model.specs.declared.segment.Style.{Style}
 use Rattle.solid_model.specs.Cells.{is_full}
-use Rattle.solid_model.specs.Choices.{cells_of_choice}
 use Rattle.solid_model.specs.Grid.{IsUnionOf}
 use Rattle.solid_model.specs.GridBox.{grid_sizes}
 use Rattle.solid_model.specs.DrawnStyle.{solid_drawing}
 use Rattle.solid_model.specs.Moved.{BeginsAt}
-use Rattle.solid_model.specs.Segments.{along_of, across_of}
 use Rattle.solid_model.specs.Panels.{GridParts, coordinates_of, IsGrid}
 use Rattle.solid_model.specs.WalledBoxes.{Sizes}
 use Rattle.solid_model.specs.Runs.{AreRuns, ViewRuns, runs_along}
+use Rattle.solid_model.proofs.Gaps.{member}
+use Rattle.redraw.proofs.SolidBegins.{begins_beside}
 use Rattle.dxf_entities.specs.declared.layer.Layer.{Layer}
 use Rattle.six_views.specs.Fits.{ShowsMoved}
 use Rattle.further_views.specs.Further.{view_style}
 use Rattle.six_views.specs.SightFrames.{sight_frame}
 use Rattle.six_views.specs.Turned.{turned_cells}
+use Rattle.fit_lanes.specs.Drawn.{DrawsNoLine, IsFirstLine}
 use Rattle.fit_lanes.specs.Points.{ArePointBytes}
-use Rattle.fit_lanes.specs.Sights.{width, height, AreSights}
-use Rattle.fit_lanes.specs.Tests.{AreDrawn, DrawsFirst}
-use Rattle.fit_lanes.specs.Wanted.{first_coordinate, turned_lines, AreWantedBytes, AreNeverDrawn}
+use Rattle.fit_lanes.specs.Sights.{width, height, AreSeenColumns}
+use Rattle.fit_lanes.specs.Tests.{AreDrawn}
+use Rattle.fit_lanes.specs.Wanted.{turned_lines, TellRuns, ArePlaced}
 use Rattle.fit_lanes.proofs.DrawnBytes.{byte_between, byte_none}
 use Rattle.fit_lanes.proofs.GridFacts.{ordered, some}
-use Rattle.fit_lanes.proofs.ShownOnGrid.{styles, style_from, point_bytes, drawn_at, begins_there, told_runs, shows_where_placed}
+use Rattle.fit_lanes.proofs.ShownOnGrid.{styles, point_bytes, some_line, full_beside, outermost_at, own_runs, tell_own, shows_where_placed, shows_some}
 
 -- a row more
 pub rows_more : (h w : ℕ) → (h + 2) * (w + 1) ≡ (h + 1) * (w + 1) + (w + 1)
@@ -36,9 +35,10 @@ rows_more h w =
     let next : h + 2 ≡ suc (h + 1) = omega arith in
     ap (λ n. n * (w + 1)) next ∙ suc-mul (h + 1) (w + 1)
 
-module _ (g : GridParts) (is : IsGrid g) (numbers : List (Option ℕ)) (x : Layer) (sights : List (List Span)) (are : AreSights x (grid_sizes g) numbers sights)
-    (choice : List Bool) (columns : List ℕ) (filled : AreFilled choice sights columns) (s : List Cell)
-    (union : IsUnionOf (coordinates_of g) (cells_of_choice numbers choice) (is_full s)) where
+module _ (g : GridParts) (is : IsGrid g) (x : Layer) (chosen : List Bool) (columns : List ℕ) (seen : AreSeenColumns x (grid_sizes g) chosen columns) (s : List Cell)
+    (union : IsUnionOf (coordinates_of g) chosen (is_full s)) (bytes : Bool → List ℕ)
+    (long : (upright : Bool) → length (bytes upright) ≡ (height x (grid_sizes g) + 1) * (width x (grid_sizes g) + 1))
+    (drawn : (upright : Bool) → AreDrawn columns (width x (grid_sizes g) + 1) upright (bytes upright)) where
   abbrev sizes : Sizes
   sizes = grid_sizes g
 
@@ -48,46 +48,47 @@ module _ (g : GridParts) (is : IsGrid g) (numbers : List (Option ℕ)) (x : Laye
   abbrev h : ℕ
   h = height x sizes
 
-  abbrev chosen : List Bool
-  chosen = cells_of_choice numbers choice
+  module _ (upright : Bool) where
+    tell : ArePointBytes w h upright (styles x (coordinates_of g) (ordered g is) (some g is) chosen s union upright) (bytes upright)
+    tell = point_bytes x (coordinates_of g) (ordered g is) (some g is) chosen s union upright (bytes upright) (long upright)
+        (byte_between x sizes chosen columns seen (bytes upright) (long upright) upright (drawn upright))
+        (byte_none x sizes chosen columns seen (bytes upright) (long upright) upright (drawn upright))
 
-  -- what is drawn and begins on the first line
-  pub record IsSeen (upright : Bool) (bytes : List ℕ) : Type 0 where
-    pub long : length bytes ≡ (h + 1) * (w + 1)
-    pub drawn : AreDrawn columns (w + 1) upright bytes
-    pub begins : DrawsFirst bytes (if upright then w + 1 else 1) (if upright then h + 1 else w + 1)
+    -- where no line is drawn nothing is shown
+    pub none_shown : (shown : Segment → Style) → DrawsNoLine w h upright (bytes upright) → ShowsMoved (sight_frame x) (is_full s) shown x.view → ⊥
+    none_shown shown none shows =
+        let c = shows_some x (coordinates_of g) (ordered g is) (some g is) chosen s union shown shows in
+        some_line x (coordinates_of g) (ordered g is) (some g is) chosen s union upright (bytes upright) (long upright)
+        (byte_between x sizes chosen columns seen (bytes upright) (long upright) upright (drawn upright))
+        (byte_none x sizes chosen columns seen (bytes upright) (long upright) upright (drawn upright)) c.0 c.1 none
 
-  module _ (upright : Bool) (bytes : List ℕ) (seen : IsSeen upright bytes) where
-    tell : ArePointBytes w h upright (styles x (coordinates_of g) (ordered g is) (some g is) chosen s union upright) bytes
-    tell = point_bytes x (coordinates_of g) (ordered g is) (some g is) chosen s union upright bytes seen.long
-        (byte_between x sizes numbers sights are choice columns filled bytes seen.long upright seen.drawn)
-        (byte_none x sizes numbers sights are choice columns filled bytes seen.long upright seen.drawn)
+    full_there : (line : ℕ) → IsFirstLine w h upright (bytes upright) line → (c : Cell) × (is_full (turned_cells x s) c ≡ true)
+    full_there = full_beside x (coordinates_of g) (ordered g is) (some g is) chosen s union upright (bytes upright) (long upright)
+        (byte_between x sizes chosen columns seen (bytes upright) (long upright) upright (drawn upright))
+        (byte_none x sizes chosen columns seen (bytes upright) (long upright) upright (drawn upright))
 
-    drawn_there : (i j : ℕ) → i ≤ w → j ≤ h → slice_index_or bytes (j * (w + 1) + i) 0 ≢ 0
-        → style_from x (coordinates_of g) (ordered g is) (some g is) chosen s union upright (across_of upright i j) (along_of upright i j) ≢ Blank
-    drawn_there = drawn_at x (coordinates_of g) (ordered g is) (some g is) chosen s union upright bytes seen.long
-        (byte_between x sizes numbers sights are choice columns filled bytes seen.long upright seen.drawn)
-        (byte_none x sizes numbers sights are choice columns filled bytes seen.long upright seen.drawn)
-
-  module _ (level_bytes upright_bytes : List ℕ) (level : IsSeen false level_bytes) (upright : IsSeen true upright_bytes) where
-    begin : BeginsAt (solid_drawing (turned_cells x s)) x.view (first_coordinate (turned_lines (coordinates_of g) x true)) (first_coordinate (turned_lines (coordinates_of g) x false))
+  module _ (right up : ℕ) (first_right : IsFirstLine w h true (bytes true) right) (first_up : IsFirstLine w h false (bytes false) up) where
+    -- it begins at the first lines that are drawn
+    begin : BeginsAt (solid_drawing (turned_cells x s)) x.view (member (turned_lines (coordinates_of g) x true) right) (member (turned_lines (coordinates_of g) x false) up)
     begin =
-        let (n, l, some_byte) = level.begins in
-        let (m, k, other_byte) = upright.begins in
-        begins_there x (coordinates_of g) (ordered g is) (some g is) chosen s union
-        m (drawn_there true upright_bytes upright 0 m (omega arith) (omega arith) (λ e. other_byte (ap (λ p. slice_index_or upright_bytes p 0) (let p : m * (w + 1) ≡ m * (w + 1) + 0 = omega arith in p) ∙ e)))
-        n (drawn_there false level_bytes level n 0 (omega arith) (omega arith) (λ e. some_byte (ap (λ p. slice_index_or level_bytes p 0) (let p : n * 1 ≡ 0 * (w + 1) + n = omega (arith, zero-mul (w + 1)) in p) ∙ e)))
+        let c = full_there true right first_right in
+        let left = outermost_at x (coordinates_of g) (ordered g is) (some g is) chosen s union true (bytes true) (long true)
+        (byte_between x sizes chosen columns seen (bytes true) (long true) true (drawn true))
+        (byte_none x sizes chosen columns seen (bytes true) (long true) true (drawn true)) right first_right c.0 c.1 in
+        let bottom = outermost_at x (coordinates_of g) (ordered g is) (some g is) chosen s union false (bytes false) (long false)
+        (byte_between x sizes chosen columns seen (bytes false) (long false) false (drawn false))
+        (byte_none x sizes chosen columns seen (bytes false) (long false) false (drawn false)) up first_up c.0 c.1 in
+        subst (λ r. BeginsAt (solid_drawing (turned_cells x s)) x.view r (member (turned_lines (coordinates_of g) x false) up)) left.1
+        (subst (λ u. BeginsAt (solid_drawing (turned_cells x s)) x.view left.0.line u) bottom.1 (begins_beside (turned_cells x s) x.view left.0 bottom.0))
 
-    pub shows_told : (shown : ViewRuns) → ((upright : Bool) → AreRuns (runs_along upright shown)) → {A : Type 0} (items : A → List ℕ) (wanted_level wanted_upright : Option A)
-        → MatchOption wanted_level (AreNeverDrawn (coordinates_of g) x false shown) (λ b. AreWantedBytes (coordinates_of g) x false shown (items b))
-        → MatchOption wanted_upright (AreNeverDrawn (coordinates_of g) x true shown) (λ b. AreWantedBytes (coordinates_of g) x true shown (items b))
-        → (told_level told_upright : Bool) → (IsTrue told_level ↔ MatchOption wanted_level ⊥ (λ b. level_bytes ≡ items b))
-        → (IsTrue told_upright ↔ MatchOption wanted_upright ⊥ (λ b. upright_bytes ≡ items b))
-        → IsTrue (told_level && told_upright) ↔ ShowsMoved (sight_frame x) (is_full s) (view_style shown) x.view
-    shows_told shown kept items wanted_level wanted_upright of_level of_upright told_level told_upright is_level is_upright =
-        let placed = shows_where_placed x (coordinates_of g) (ordered g is) (some g is) chosen s union shown kept begin in
-        let level_placed = told_runs x (coordinates_of g) (ordered g is) (some g is) chosen s union shown kept begin items false level_bytes (tell false level_bytes level) wanted_level of_level in
-        let upright_placed = told_runs x (coordinates_of g) (ordered g is) (some g is) chosen s union shown kept begin items true upright_bytes (tell true upright_bytes upright) wanted_upright of_upright in (
-          (λ both. let parts = and_parts told_level told_upright both in placed.0 (level_placed.0 (is_level.0 parts.0), upright_placed.0 (is_upright.0 parts.1))),
-          (λ shows. let p = placed.1 shows in and_from told_level told_upright (is_level.1 (level_placed.1 p.0)) (is_upright.1 (upright_placed.1 p.1))),
-        )
+    -- so what they tell is told of it
+    pub shows_told : (shown : ViewRuns) → ((upright : Bool) → AreRuns (runs_along upright shown)) → (told : Bool)
+        → ((level upright : List Run) → TellRuns (coordinates_of g) x false (bytes false) level → TellRuns (coordinates_of g) x true (bytes true) upright
+        → IsTrue told ↔ (ArePlaced (coordinates_of g) x shown right up false level × ArePlaced (coordinates_of g) x shown right up true upright))
+        → IsTrue told ↔ ShowsMoved (sight_frame x) (is_full s) (view_style shown) x.view
+    shows_told shown kept told tells =
+        let placed = shows_where_placed x (coordinates_of g) (ordered g is) (some g is) chosen s union shown kept right up begin in
+        let own = own_runs x (coordinates_of g) (ordered g is) (some g is) chosen s union shown kept right up begin in
+        let own_tell = tell_own x (coordinates_of g) (ordered g is) (some g is) chosen s union shown kept right up begin in
+        let both = tells (runs_along false own.own) (runs_along true own.own) (own_tell false (bytes false) (tell false)) (own_tell true (bytes true) (tell true)) in
+        ((λ yes. placed.0 (both.0 yes)), (λ shows. both.1 (placed.1 shows)))

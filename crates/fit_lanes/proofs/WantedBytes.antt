@@ -50,14 +50,15 @@ module _ (x : Layer) (coordinates : Coordinates) (some : (b : Axis) → 0 < leng
   styles_count : (styles : List Style) → length styles ≡ length lines * (length ends - 1) → length styles ≡ (across_of upright w h + 1) * along_of upright w h
   styles_count styles count = count ∙ ap₂ ◌*◌ lines_count ends_count
 
-  module _ (shown : ViewRuns) where
+  module _ (shown : ViewRuns) (right up : ℕ) where
     pub bytes_wanted : (wanted : List Style) (bytes : List ℕ)
-        → AreWantedStyles lines ends (runs_along upright shown) wanted → ArePointBytes w h upright wanted bytes → AreWantedBytes coordinates x upright shown bytes
+        → AreWantedStyles lines ends (across_of upright right up) (along_of upright right up) (runs_along upright shown) wanted → ArePointBytes w h upright wanted bytes
+        → AreWantedBytes coordinates x shown right up upright bytes
     bytes_wanted wanted bytes are of own runs (styles, have, tell) =
         let told = are.exact styles runs have in (
           (λ same. same_bytes w h upright styles wanted own bytes tell of (told.0 same)),
           (λ same. told.1 (same_styles w h upright styles wanted own bytes tell of (styles_count styles have.count) (styles_count wanted are.count) same)),
         )
 
-    pub never_drawn : AreNeverShown lines ends (runs_along upright shown) → AreNeverDrawn coordinates x upright shown
+    pub never_drawn : AreNeverShown lines ends (across_of upright right up) (along_of upright right up) (runs_along upright shown) → AreNeverDrawn coordinates x shown right up upright
     never_drawn never own runs (styles, have, tell) = never styles runs have

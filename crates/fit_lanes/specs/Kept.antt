@@ -1,22 +1,30 @@
--- What the test of a further view keeps.
-use Rattle.std.specs.Prelude.{◌≡◌, ◌+◌, ◌*◌, Bool, ℕ, List, length}
+-- What a view keeps, to draw choices.
+use Rattle.std.specs.Prelude.{◌≡◌, ◌+◌, ◌*◌, ◌≤◌, ℕ, List, length, Option}
 use Rattle.cell_rows.specs.declared.span.Span.{Span}
-use Rattle.solid_model.specs.Blocks.{ProblemParts, IsBlocksOf}
-use Rattle.solid_model.specs.Panels.{IsGrid}
+use Rattle.solid_model.specs.Blocks.{ProblemParts}
+use Rattle.solid_model.specs.Panels.{coordinates_of, IsGrid}
 use Rattle.solid_model.specs.GridBox.{grid_sizes}
-use Rattle.solid_model.specs.Runs.{AreRuns, ViewRuns, runs_along}
 use Rattle.dxf_entities.specs.declared.layer.Layer.{Layer}
-use Rattle.fit_lanes.specs.Sights.{width, height, AreSights}
 use Rattle.fit_lanes.specs.Busy.{AreBusy, AreBlankBeyond}
+use Rattle.fit_lanes.specs.Cuts.{LayerKeeps}
+use Rattle.fit_lanes.specs.Sights.{width, height, AreSights}
 
--- the spans behind the points of a problem's grid, the points beside which there are some, a column for each of them, and a byte for
--- each point, which draws nothing beyond those; and the shown runs are runs
-pub record IsRoomOf (p : ProblemParts) (x : Layer) (shown : ViewRuns) (sights : List (List Span)) (points columns drawn : List ℕ) : Type 0 where
+-- a byte for each point of a view of so many cells, which draws nothing beyond these
+pub record AreBytesFor (w h : ℕ) (points bytes : List ℕ) : Type 0 where
+  pub long : length bytes ≡ (h + 1) * (w + 1)
+  pub blank : AreBlankBeyond points bytes
+
+-- how many cells the view has, the depths that it keeps, the spans behind its points, those beside which there are some, a column for
+-- each of the spans, and bytes of both kinds
+pub record IsRoomOf (p : ProblemParts) (x : Layer) (kept : Option ℕ) (w h : ℕ) (sights : List (List Span)) (points columns level upright : List ℕ) : Type 0 where
   pub grid : IsGrid p.grid
-  pub blocks : IsBlocksOf p.grid p.blocks
+  pub keeps : LayerKeeps (coordinates_of p.grid) x kept
+  pub wide : w ≡ width x (grid_sizes p.grid)
+  pub high : h ≡ height x (grid_sizes p.grid)
+  pub few_wide : w ≤ 63
+  pub few_high : h ≤ 63
   pub sights_of : AreSights x (grid_sizes p.grid) p.blocks.numbers sights
-  pub busy : AreBusy sights (width x (grid_sizes p.grid) + 1) (length drawn) points
+  pub busy : AreBusy sights (w + 1) ((h + 1) * (w + 1)) points
   pub columns_for : length columns ≡ length sights
-  pub drawn_for : length drawn ≡ (height x (grid_sizes p.grid) + 1) * (width x (grid_sizes p.grid) + 1)
-  pub blank : AreBlankBeyond points drawn
-  pub kept : (upright : Bool) → AreRuns (runs_along upright shown)
+  pub level_for : AreBytesFor w h points level
+  pub upright_for : AreBytesFor w h points upright

@@ -1,6 +1,8 @@
 pub mod Sights
 pub mod Points
 pub mod Busy
-pub mod Wanted
+pub mod Cuts
 pub mod Tests
+pub mod Drawn
+pub mod Wanted
 pub mod Kept

@@ -1,17 +1,16 @@
 -- What tests of layers are asked, and tell.
-use Rattle.std.specs.Prelude.{◌≢◌, ◌↔◌, ◌+◌, ◌-◌, ◌*◌, ◌<◌, Bool, ℕ, List, length, map, slice_index_or, IsTrue}
+use Rattle.std.specs.Prelude.{◌↔◌, ◌+◌, ◌-◌, ◌<◌, Bool, ℕ, List, length, map, slice_index_or, IsTrue}
 use Rattle.solid_model.specs.declared.cell.Cell.{Cell}
 use Rattle.solid_model.specs.Blocks.{ProblemParts}
 use Rattle.solid_model.specs.Cells.{is_full}
 use Rattle.solid_model.specs.Choices.{cells_of_choice}
 use Rattle.solid_model.specs.Grid.{IsUnionOf}
 use Rattle.solid_model.specs.Panels.{coordinates_of}
+use Rattle.solid_model.specs.Runs.{AreRuns, runs_along}
 use Rattle.column_lanes.specs.Styles.{IsStyleByte}
 use Rattle.lemmas.specs.Bits.{bits}
-use Rattle.further_views.specs.Further.{AskedRuns, FurtherRuns, view_style}
+use Rattle.further_views.specs.Further.{AskedRuns, FurtherRuns}
 use Rattle.six_views.specs.Further.{ShowsAsked}
-use Rattle.six_views.specs.Fits.{ShowsMoved}
-use Rattle.six_views.specs.SightFrames.{sight_frame}
 use Rattle.fit_lanes.specs.Points.{places_before}
 
 -- a layer of a problem's solids, and what it has to show
@@ -35,10 +34,9 @@ ShowsIn a choice = (s : List Cell) → Fills a choice s → ShowsAsked s a.asked
 abbrev pub TellsLayer : LayerAsked → List Bool → Bool → Type 0
 TellsLayer a choice told = (s : List Cell) → Fills a choice s → (IsTrue told ↔ ShowsAsked s a.asked)
 
--- the same as if the layer had no cut
-abbrev pub TellsShown : LayerAsked → List Bool → Bool → Type 0
-TellsShown a choice told = (s : List Cell) → Fills a choice s
-    → (IsTrue told ↔ ShowsMoved (sight_frame a.asked.layer) (is_full s) (view_style a.asked.runs) a.asked.layer.view)
+-- what it has to show is runs
+abbrev pub AreRunsAsked : LayerAsked → Type 0
+AreRunsAsked a = (upright : Bool) → AreRuns (runs_along upright a.asked.runs)
 
 -- ---- computed
 
@@ -46,7 +44,3 @@ TellsShown a choice told = (s : List Cell) → Fills a choice s
 abbrev pub AreDrawn : List ℕ → ℕ → Bool → List ℕ → Type 0
 AreDrawn columns stride upright bytes = (p : ℕ) → p < length bytes
     → IsStyleByte (slice_index_or bytes p 0) (bits (slice_index_or columns (p + stride) 0)) (bits (slice_index_or columns (p + stride - places_before stride upright) 0))
-
--- something is drawn at one of so many points, each so far from the one before it
-abbrev pub DrawsFirst : List ℕ → ℕ → ℕ → Type 0
-DrawsFirst bytes apart points = (n : ℕ) × (n < points) × (slice_index_or bytes (n * apart) 0 ≢ 0)

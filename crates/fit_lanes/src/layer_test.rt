@@ -1,9 +1,10 @@
 //! The test of one layer that is asked for.
 
-ghost use Rattle.std.specs.Prelude.{◌≡◌, ◌↔◌, IsTrue, IfOk};
+ghost use Rattle.std.specs.Prelude.{◌≡◌, ◌↔◌, IsTrue, IfOk, IfSome};
 ghost use Rattle.fit_lanes.specs.Tests.{ShowsIn, layers_asked};
 ghost use Rattle.lemmas.specs.Lists.{Each};
 
+use crate::cuts::kept_depths;
 use crate::view_test::ViewTest;
 use cell_rows::BlockRows;
 use further_views::{AskedView, Layer};
@@ -12,8 +13,12 @@ use solid_model::{Axis, Choice, Memory, Problem, ViewLines};
 use std::alloc::Global;
 use std::marker::Model;
 
-/// A layer that is asked for, with a fast test of it where it has no cut. Contracts see the problem
-/// and the layer with its runs.
+/// How many layers are tested fast: each takes room that grows with its view's grid. The others are
+/// tested without.
+const FAST_TESTS: usize = 64;
+
+/// A layer that is asked for, with a fast test of it if there is one. Contracts see the problem and
+/// the layer with its runs.
 #[derive(Debug, Drop)]
 pub struct LayerTest<'a> {
     problem: &'a Problem,
@@ -23,7 +28,7 @@ pub struct LayerTest<'a> {
 }
 
 impl<'a> Model for LayerTest<'a> {
-    ghost use Rattle.std.specs.Prelude.{◌≡◌, None, IfSome};
+    ghost use Rattle.std.specs.Prelude.{◌≡◌, IfSome};
     ghost use Rattle.fit_lanes.specs.Tests.{LayerAsked};
 
     ghost Value = { LayerAsked };
@@ -33,57 +38,70 @@ impl<'a> Model for LayerTest<'a> {
       asked = record { layer = s.layer; runs = s.shown.now };
     } };
 
-    ghost invariant = { λ s. IfSome s.fast (λ test. (s.layer.cut ≡ None)
-        × (test ≡ record {
-          problem = s.problem.now;
-          asked = record { layer = s.layer; runs = s.shown.now };
-        })) };
+    ghost invariant = { λ s. IfSome s.fast (λ test. test ≡ record {
+      problem = s.problem.now;
+      asked = record { layer = s.layer; runs = s.shown.now };
+    }) };
+}
+
+/// The fast test of a layer; none where its cut leaves nothing of any solid. An `Err` is out of
+/// memory.
+fn fast_test<'a>(
+    alloc: Global,
+    problem: &'a Problem,
+    rows: &BlockRows<'_>,
+    asked: &'a AskedView,
+) -> Result<Option<ViewTest<'a>>, Memory>
+    requires { rows.now ≡ problem.now.blocks }
+    ensures { IfOk result (λ fast. IfSome fast (λ test. test
+        ≡ record { problem = problem.now; asked = asked.now })) }
+{
+    let (layer, shown) = (asked.layer, &asked.lines);
+    let Some(cut) = layer.cut else {
+        let test = ViewTest::of(alloc, problem, rows, layer, None, shown)?;
+        return Ok(Some(test));
+    };
+    let Some(kept) = kept_depths(problem.grid(), layer, cut) else {
+        return Ok(None);
+    };
+    let test = ViewTest::of(alloc, problem, rows, layer, Some(kept), shown)?;
+    Ok(Some(test))
 }
 
 impl<'a> LayerTest<'a> {
     ghost use Rattle.std.specs.Prelude.{◌≡◌, IfOk};
 
-    /// The test of a layer. An `Err` is out of memory.
+    /// The test of a layer, a fast one if asked for. An `Err` is out of memory.
     pub fn of(
         alloc: Global,
         problem: &'a Problem,
         rows: &BlockRows<'_>,
         asked: &'a AskedView,
+        fast: bool,
     ) -> Result<LayerTest<'a>, Memory>
         requires { rows.now ≡ problem.now.blocks }
         ensures { IfOk result (λ test. test
             ≡ record { problem = problem.now; asked = asked.now }) }
     {
-        let (layer, shown) = (asked.layer, &asked.lines);
-        let fast = match layer.cut {
-            Some(_) => None,
-            None => Some(ViewTest::of(alloc, problem, rows, layer, shown)?),
+        let fast = if fast {
+            fast_test(alloc, problem, rows, asked)?
+        } else {
+            None
         };
         Ok(LayerTest {
             problem,
-            layer,
-            shown,
+            layer: asked.layer,
+            shown: &asked.lines,
             fast,
         })
     }
 }
 
 impl LayerTest<'_> {
-    ghost use Rattle.std.specs.Prelude.{◌≡◌, ◌↔◌, IsTrue, IfOk, IfSome};
-    ghost use Rattle.fit_lanes.specs.Tests.{ShowsIn, TellsLayer};
+    ghost use Rattle.std.specs.Prelude.{◌≡◌, ◌↔◌, IsTrue, IfOk};
+    ghost use Rattle.fit_lanes.specs.Tests.{ShowsIn};
 
-    /// Whether the solid that a choice fills shows the layer, where the fast test tells that.
-    fn shows_fast(&mut self, choice: &Choice) -> Option<bool>
-        ensures same { self.new ≡ self.old }
-        ensures told { IfSome result (λ yes. TellsLayer self.old choice.now yes) }
-    {
-        let Some(test) = &mut self.fast else {
-            return None;
-        };
-        test.shows(choice)
-    }
-
-    /// Whether it shows the layer, by whichever test. An `Err` is out of memory.
+    /// Whether the solid that a choice fills shows the layer. An `Err` is out of memory.
     fn shows(&mut self, alloc: Global, choice: &Choice) -> Result<bool, Memory>
         ensures same { self.new ≡ self.old }
         ensures told { IfOk result (λ yes. IsTrue yes ↔ ShowsIn self.old choice.now) }
@@ -92,8 +110,8 @@ impl LayerTest<'_> {
         let grid = problem.grid();
         // A look at the grid's coordinates tells that they ascend.
         let _xs = grid.coordinates(Axis::X);
-        if let Some(told) = self.shows_fast(choice) {
-            return Ok(told);
+        if let Some(test) = &mut self.fast {
+            return test.shows(alloc, choice);
         }
         let cells = problem.cells(alloc, choice)?;
         shows(alloc, grid, layer, &cells, shown)
@@ -113,7 +131,8 @@ pub fn tests_of<'a>(
 {
     let mut tests = Vec::with_capacity(alloc, further.len())?;
     for asked in further {
-        tests.push(LayerTest::of(alloc, problem, rows, asked)?)?;
+        let fast = tests.len() < FAST_TESTS;
+        tests.push(LayerTest::of(alloc, problem, rows, asked, fast)?)?;
     }
     Ok(tests)
 }

@@ -1,10 +1,12 @@
 //! What is drawn on the segments that begin at the points of a view's grid, as bytes.
 
-ghost use Rattle.std.specs.Prelude.{◌≡◌, ◌≤◌, ◌<◌, ◌+◌, length, IsTrue, IfOk};
+ghost use Rattle.std.specs.Prelude.{◌≡◌, ◌≤◌, ◌<◌, ◌+◌, ◌↔◌, length, IsTrue, IfOk, MatchOption};
 ghost use Rattle.fit_lanes.specs.Busy.{AreAlikeBeyond, AreBlankBeyond};
 ghost use Rattle.fit_lanes.specs.Points.{point_byte, ArePointBytes};
-ghost use Rattle.fit_lanes.specs.Tests.{AreDrawn, DrawsFirst};
+ghost use Rattle.fit_lanes.specs.Drawn.{DrawsFrom, DrawsLine, DrawsNoLine, IsFirstLine};
+ghost use Rattle.fit_lanes.specs.Tests.{AreDrawn};
 ghost use Rattle.lemmas.specs.Lists.{Each};
+ghost use Rattle.solid_model.specs.Segments.{across_of};
 
 use column_lanes::{Column, style_byte, style_of};
 use solid_model::{Memory, Style};
@@ -81,19 +83,59 @@ pub fn draw(columns: &[u64], stride: usize, upright: bool, points: &[usize], dra
     }
 }
 
-/// Whether something is drawn at one of the first points, so many, each so far from the one before
-/// it.
-pub fn begins(drawn: &[u8], apart: usize, points: usize) -> bool
+/// What goes across level, or upright, segments: of what lies to the right and upwards the one or
+/// the other.
+pub fn across_of(upright: bool, right: usize, up: usize) -> usize
+    ensures { result ≡ across_of upright right up }
+{
+    if upright { right } else { up }
+}
+
+/// Whether something is drawn at one of so many points, from this one on, each so far from the one
+/// before it.
+fn draws_from(drawn: &[u8], first: usize, apart: usize, points: usize) -> bool
+    requires first { first ≤ 4032 }
     requires apart { apart ≤ 64 }
     requires points { points ≤ 64 }
-    ensures { IsTrue result → DrawsFirst drawn.now apart points }
+    ensures { IsTrue result ↔ DrawsFrom drawn.now first apart points }
 {
     for point in 0..points {
-        if let Some(byte) = drawn.get(point * apart) {
+        if let Some(byte) = drawn.get(first + point * apart) {
             if *byte != 0 {
                 return true;
             }
         }
     }
     false
+}
+
+/// Whether something is drawn on the level, or the upright, line of this number, of a view of so
+/// many cells.
+fn draws_line(drawn: &[u8], width: usize, height: usize, upright: bool, line: usize) -> bool
+    requires width { width ≤ 63 }
+    requires height { height ≤ 63 }
+    requires line { line ≤ 63 }
+    ensures { IsTrue result ↔ DrawsLine width height upright drawn.now line }
+{
+    let stride = width + 1;
+    if upright {
+        draws_from(drawn, line, stride, height + 1)
+    } else {
+        draws_from(drawn, line * stride, 1, stride)
+    }
+}
+
+/// The first of these lines on which something is drawn.
+pub fn first_line(drawn: &[u8], width: usize, height: usize, upright: bool) -> Option<usize>
+    requires width { width ≤ 63 }
+    requires height { height ≤ 63 }
+    ensures { MatchOption result (DrawsNoLine width height upright drawn.now)
+        (IsFirstLine width height upright drawn.now) }
+{
+    for line in 0..across_of(upright, width, height) + 1 {
+        if draws_line(drawn, width, height, upright, line) {
+            return Some(line);
+        }
+    }
+    None
 }

@@ -1,13 +1,13 @@
-//! What a further view has to show on the grid.
+//! What a layer has to show on the grid.
 
-ghost use Rattle.std.specs.Prelude.{◌≡◌, ◌↔◌, ◌≤◌, length, map, ◌+ℤ◌, ◌<ℤ◌, IsTrue, IfOk, MatchOption};
-ghost use Rattle.fit_lanes.specs.Wanted.{first_coordinate, AreShownStyles, AreWantedStyles, AreNeverShown, AreWantedBytes, AreNeverDrawn};
+ghost use Rattle.std.specs.Prelude.{◌≡◌, ◌↔◌, ◌≤◌, length, map, slice_index_or, pos, ◌+ℤ◌, ◌<ℤ◌, IsTrue, IfOk, MatchOption};
+ghost use Rattle.fit_lanes.specs.Wanted.{AreShownStyles, AreWantedStyles, AreNeverShown, AreWantedBytes, AreNeverDrawn};
 ghost use Rattle.lemmas.specs.Lists.{Ascends};
 ghost use Rattle.solid_model.specs.Panels.{coordinates_of};
 ghost use Rattle.solid_model.specs.Runs.{run_covers, run_style};
 ghost use Rattle.six_views.specs.MovedRuns.{moved_run};
 
-use crate::points::point_bytes;
+use crate::points::{across_of, point_bytes};
 use further_views::Layer;
 use redraw::runs_on;
 use six_views::{are_moved, is_farther, sight_frame, turned_places};
@@ -49,11 +49,11 @@ fn moved_style(runs: &[Run], across: i64, along: i64, line: i64, place: i64) -> 
     Style::Blank
 }
 
-/// The first of the places, 0 where there is none.
-fn first_coordinate(places: &[i64]) -> i64
-    ensures { result ≡ first_coordinate places.now }
+/// The place of this number, 0 where there is none.
+fn place_at(places: &[i64], number: usize) -> i64
+    ensures { result ≡ slice_index_or places.now number (pos 0) }
 {
-    match places.first() {
+    match places.get(number) {
         Some(place) => *place,
         None => 0,
     }
@@ -84,11 +84,13 @@ fn shown_styles(
 }
 
 /// The styles of the cells between these ends on these lines of which the runs are the shown ones,
-/// moved to the first line and end; none where no styles have such runs.
+/// moved to the line and the end of these numbers; none where no styles have such runs.
 fn wanted_styles(
     alloc: Global,
     lines: &[i64],
     ends: &[i64],
+    line: usize,
+    end: usize,
     shown: &[Run],
 ) -> Result<Option<Vec<Style>>, Memory>
     requires lines { Ascends ◌<ℤ◌ lines.now }
@@ -96,10 +98,10 @@ fn wanted_styles(
     requires few_lines { length lines.now ≤ 64 }
     requires few_ends { length ends.now ≤ 64 }
     ensures { IfOk result (λ wanted. MatchOption wanted
-        (AreNeverShown lines.now ends.now shown.now)
-        (λ styles. AreWantedStyles lines.now ends.now shown.now styles.items)) }
+        (AreNeverShown lines.now ends.now line end shown.now)
+        (λ styles. AreWantedStyles lines.now ends.now line end shown.now styles.items)) }
 {
-    let (across, along) = (first_coordinate(lines), first_coordinate(ends));
+    let (across, along) = (place_at(lines, line), place_at(ends, end));
     let styles = shown_styles(alloc, lines, ends, shown, across, along)?;
     let runs = runs_on(alloc, lines, ends, &styles)?;
     if are_moved(&runs, shown, across, along) {
@@ -109,18 +111,22 @@ fn wanted_styles(
     }
 }
 
-/// The bytes of the level, or the upright, segments that a further view has to show, by the points
-/// at which they begin; none where no solid on the grid shows it.
+/// The bytes of the level, or the upright, segments that a layer has to show, by the points at
+/// which they begin, where what is shown begins at the upright and the level line of these numbers;
+/// none where no solid on the grid shows it there.
 pub fn wanted_bytes(
     alloc: Global,
     grid: &Grid,
     layer: Layer,
     shown: &ViewLines,
+    right: usize,
+    up: usize,
     upright: bool,
 ) -> Result<Option<Vec<u8>>, Memory>
     ensures { IfOk result (λ wanted. MatchOption wanted
-        (AreNeverDrawn (coordinates_of grid.now) layer upright shown.now)
-        (λ bytes. AreWantedBytes (coordinates_of grid.now) layer upright shown.now bytes.items)) }
+        (AreNeverDrawn (coordinates_of grid.now) layer shown.now right up upright)
+        (λ bytes. AreWantedBytes (coordinates_of grid.now) layer shown.now right up upright
+        bytes.items)) }
 {
     // A look at the grid's coordinates tells that they ascend.
     let _xs = grid.coordinates(Axis::X);
@@ -129,8 +135,9 @@ pub fn wanted_bytes(
     let (width, height) = (sizes.along(frame.right.axis), sizes.along(frame.up.axis));
     let lines = turned_places(alloc, grid, layer, frame.across(upright).axis)?;
     let ends = turned_places(alloc, grid, layer, frame.along(upright).axis)?;
+    let (line, end) = (across_of(upright, right, up), across_of(upright, up, right));
     let shown = shown.along(upright).as_slice();
-    match wanted_styles(alloc, &lines, &ends, shown)? {
+    match wanted_styles(alloc, &lines, &ends, line, end, shown)? {
         Some(styles) => Ok(Some(point_bytes(alloc, &styles, width, height, upright)?)),
         None => Ok(None),
     }

@@ -12,4 +12,4 @@ mod laws;
 mod left_cells;
 
 pub use laws::{areas_are_views_of_their_slab, sections_are_views_of_shaded_cells, small_sections};
-pub use left_cells::cells_left;
+pub use left_cells::{cells_left, cut_gap};

@@ -36,7 +36,7 @@ first_least r rs are m (inr k) = earlier (each-at (StandsApart r) rs m are.1.0 k
     earlier (inr same) = let e = same.0 in omega (arith, ints)
 
 -- the line of a segment that is told by it
-line_at : (v : View) (upright : Bool) (start line : ℤ) → line_of (segment_at v upright start line) ≡ line
+pub line_at : (v : View) (upright : Bool) (start line : ℤ) → line_of (segment_at v upright start line) ≡ line
 line_at v true start line = refl
 line_at v false start line = refl
 

@@ -13,7 +13,7 @@ use Rattle.solid_model.specs.GridPlaces.{place_in}
 use Rattle.solid_model.specs.PerAxis.{numbered}
 use Rattle.section_laws.specs.CutGaps.{EndsBehind, IsFirstGap, ReachesPlane}
 use Rattle.section_laws.specs.LeftCells.{DrawsWhatIsLeft, LeavesNothing}
-use Rattle.section_laws.specs.Shaded.{ChoosesWhere, IsInSlab, IsLeftCell, IsNoFarther, IsShaded}
+use Rattle.section_laws.specs.Shaded.{AreLeftCells, ChoosesWhere, IsInSlab, IsLeftCell, IsNoFarther, IsShaded}
 use Rattle.section_laws.proofs.LeftCells.{kept_draw, none_kept, nothing_left}
 use Rattle.six_views.proofs.Decided.{as_decided, both_decided, test_decided, told, told_is}
 use Rattle.six_views.proofs.SeenTurned.{some_list}
@@ -123,6 +123,11 @@ module _ (d : Direction) (sizes : Axis → ℕ) (chosen : List Bool) (first : �
   left_decided true = slab_decided
   left_decided false = shaded_decided
 
+-- so there is a list of those that a gap leaves of chosen ones
+pub some_left_cells : (area : Bool) (d : Direction) (coordinates : Coordinates) (gap : ℕ) (chosen : List Bool) → (kept : List Bool) × AreLeftCells area d coordinates gap chosen kept
+some_left_cells area d coordinates gap chosen = some_chosen coordinates (IsLeftCell area d (gaps_along coordinates) gap chosen)
+    (λ cell. left_decided d (gaps_along coordinates) chosen gap cell area)
+
 -- ---- what is left
 
 module _ (f : Frame) (is : IsFrame f) (coordinates : Coordinates) (ascends : (a : Axis) → Ascends ◌<ℤ◌ (coordinates a)) (chosen : List Bool) (plane : ℤ) where
@@ -148,8 +153,7 @@ module _ (f : Frame) (is : IsFrame f) (coordinates : Coordinates) (ascends : (a 
 
   left_by_gap : (area : Bool) (n : ℕ) → IsFirstGap forward zs plane n → IsDecided (Holds area n) → Left area
   left_by_gap area n first (inl holds) =
-      let made = some_chosen coordinates (IsLeftCell area f.away (gaps_along coordinates) n chosen)
-      (λ cell. left_decided f.away (gaps_along coordinates) chosen n cell area) in
+      let made = some_left_cells area f.away coordinates n chosen in
       inl (made.0, kept_draw f is coordinates ascends chosen plane n first area holds made.0 made.1)
   left_by_gap area n first (inr none) = inr (none_kept f is coordinates ascends chosen plane n first area none)
 

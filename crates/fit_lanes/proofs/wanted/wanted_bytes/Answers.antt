@@ -11,6 +11,7 @@ use Rattle.solid_model.specs.Grid.{gaps_along}
 use Rattle.solid_model.specs.Panels.{coordinates_of}
 use Rattle.solid_model.specs.PerAxis.{numbers_of}
 use Rattle.solid_model.specs.Runs.{runs_along}
+use Rattle.solid_model.specs.Segments.{along_of, across_of}
 use Rattle.dxf_entities.specs.declared.layer.Layer.{Layer}
 use Rattle.six_views.specs.SightFrames.{sight_frame}
 use Rattle.six_views.specs.Turned.{turned_coordinates}
@@ -59,12 +60,16 @@ returns-in-Some c =
     c.sight_frame-frame.ensures c.sizes-sizes.ensures.sizes c.along-width.ensures in
     let high : c.along-height.result ≡ height x (gaps_along coordinates) = size_is x (λ f. f.up) c.sight_frame-frame.result (numbers_of c.sizes-sizes.result) (gaps_along coordinates) _
     c.sight_frame-frame.ensures c.sizes-sizes.ensures.sizes c.along-height.ensures in
-    let told = subst (λ o. MatchOption o (AreNeverShown c.deref.result.now c.deref-2.result.now c.as_slice-shown.result.now)
-    (λ v. AreWantedStyles c.deref.result.now c.deref-2.result.now c.as_slice-shown.result.now v.items)) c.in-Some.is c.in_ok-styles.ensures in
-    let are = subst (λ (ls : List ℤ). AreWantedStyles ls (turned_ends coordinates x u) (runs_along u c.args.shown.now) styles) lines
-    (subst (λ (es : List ℤ). AreWantedStyles c.deref.result.now es (runs_along u c.args.shown.now) styles) ends
-    (subst (λ (rs : List Run). AreWantedStyles c.deref.result.now c.deref-2.result.now rs styles) shown told)) in
-    bytes_wanted x coordinates (some c.args.grid.now c.coordinates-xs.ensures.kept) u c.args.shown.now styles bytes are
+    let line = c.across_of-line.ensures in let end = c.across_of-end.ensures in
+    let right = c.args.right in let up = c.args.up in
+    let told = subst (λ o. MatchOption o (AreNeverShown c.deref.result.now c.deref-2.result.now c.across_of-line.result c.across_of-end.result c.as_slice-shown.result.now)
+    (λ v. AreWantedStyles c.deref.result.now c.deref-2.result.now c.across_of-line.result c.across_of-end.result c.as_slice-shown.result.now v.items)) c.in-Some.is c.in_ok-styles.ensures in
+    let at = subst (λ (m : ℕ). AreWantedStyles c.deref.result.now c.deref-2.result.now m (along_of u right up) c.as_slice-shown.result.now styles) line
+    (subst (λ (n : ℕ). AreWantedStyles c.deref.result.now c.deref-2.result.now c.across_of-line.result n c.as_slice-shown.result.now styles) end told) in
+    let are = subst (λ (ls : List ℤ). AreWantedStyles ls (turned_ends coordinates x u) (across_of u right up) (along_of u right up) (runs_along u c.args.shown.now) styles) lines
+    (subst (λ (es : List ℤ). AreWantedStyles c.deref.result.now es (across_of u right up) (along_of u right up) (runs_along u c.args.shown.now) styles) ends
+    (subst (λ (rs : List Run). AreWantedStyles c.deref.result.now c.deref-2.result.now (across_of u right up) (along_of u right up) rs styles) shown at)) in
+    bytes_wanted x coordinates (some c.args.grid.now c.coordinates-xs.ensures.kept) u c.args.shown.now right up styles bytes are
     (subst (λ xs. ArePointBytes (width x (gaps_along coordinates)) (height x (gaps_along coordinates)) u xs bytes) c.deref-in-Some.ensures.value
     (subst (λ n. ArePointBytes n (height x (gaps_along coordinates)) u c.deref-in-Some.result.now bytes) wide
     (subst (λ n. ArePointBytes c.along-width.result n u c.deref-in-Some.result.now bytes) high c.in_ok-point_bytes-in-Some.ensures)))

@@ -1,54 +1,29 @@
--- What the first gap behind the plane holds, or nothing.
-use Rattle.std.proofs.Common.{List, ℤ, w64, SFits, rules, IsTrue, refl, sym, subst, arith}
-use Rattle.std.proofs.lemmas.Bool.{both_ways}
+-- What the gap leaves, or nothing.
+use Rattle.std.proofs.Common.{◌≡◌, List, Bool, Option, w64, SFits, rules, subst, arith}
+use Rattle.std.specs.Prelude.{MatchOption}
 use Rattle.std.proofs.lemmas.Int.{to_z-of_z}
-use Rattle.solid_model.specs.Panels.{coordinates_of}
-use Rattle.section_laws.specs.CutGaps.{ReachesPlane}
-use Rattle.section_laws.proofs.LeftCells.{first_in, none_in, nothing_left, kept_draw, none_kept}
 use Rattle.section_laws.proofs.left_cells.cells_left.Goals as goal
+
+-- what is told of an option that is this one
+told_of : {A : Type 0} (o p : Option A) (P : Type 0) (Q : A → Type 0) → o ≡ p → MatchOption o P Q → MatchOption p P Q
+told_of o p P Q is told = subst (λ q. MatchOption q P Q) is told
 
 pub returns-in_default : goal.returns-in_default
 returns-in_default c =
     let plane : SFits w64 c.args.plane = search rules in
-    let same = to_z-of_z w64 c.args.plane plane in
-    let none = rw (same) at (c.first_gap.ensures.none c.in_default.is) in
-    nothing_left c.args.frame c.requires (coordinates_of c.args.grid.now) (λ a. (c.coordinates-coordinates.ensures.kept.2.coordinates a).ordered) c.args.cells.now c.args.plane
-    (none_in c.args.frame.away.forward _ _ c.args.plane c.coordinates-coordinates.ensures.same none) c.args.area
-
-pub holds_left-requires : goal.holds_left-requires
-holds_left-requires c =
-    let plane : SFits w64 c.args.plane = search rules in
-    let same = to_z-of_z w64 c.args.plane plane in
-    let some = rw (same) at c.first_gap.ensures.some in
-    (first_in c.args.frame.away.forward _ _ c.args.plane _ c.in-Some.gap refl c.in-Some.is some).within
-
-pub returns-then-not-holds_left : goal.returns-then-not-holds_left
-returns-then-not-holds_left c =
-    let plane : SFits w64 c.args.plane = search rules in
-    let same = to_z-of_z w64 c.args.plane plane in
-    let some = rw (same) at c.first_gap.ensures.some in
-    let first = first_in c.args.frame.away.forward _ _ c.args.plane _ c.in-Some.gap c.coordinates-coordinates.ensures.same c.in-Some.is some in
-    let told = rw (same) at c.holds_left.ensures in
-    none_kept c.args.frame c.requires (coordinates_of c.args.grid.now) (λ a. (c.coordinates-coordinates.ensures.kept.2.coordinates a).ordered) c.args.cells.now c.args.plane
-    c.in-Some.gap first c.args.area (λ near. both_ways c.holds_left.result c.if-not-holds_left.true
-    (told.1 (subst (λ (zs : List ℤ). IsTrue c.args.area → ReachesPlane c.args.frame.away.forward zs c.args.plane c.in-Some.gap) (sym c.coordinates-coordinates.ensures.same) near)))
+    let told = rw (to_z-of_z w64 c.args.plane plane) at c.cut_gap.ensures in
+    told_of _ _ _ _ c.in_default.is told c.args.cells.now
 
 pub kept_cells-requires : goal.kept_cells-requires
 kept_cells-requires c =
     let plane : SFits w64 c.args.plane = search rules in
-    let same = to_z-of_z w64 c.args.plane plane in
-    let some = rw (same) at c.first_gap.ensures.some in
-    let first = first_in c.args.frame.away.forward _ _ c.args.plane _ c.in-Some.gap c.coordinates-coordinates.ensures.same c.in-Some.is some in
-    let few = c.coordinates-coordinates.ensures.kept.2.few c.args.frame.away.axis in
-    omega (arith, first.within)
+    let told = rw (to_z-of_z w64 c.args.plane plane) at c.cut_gap.ensures in
+    let left = told_of _ _ _ _ c.in-Some.is told in
+    let few = c.coordinates-xs.ensures.kept.2.few c.args.frame.away.axis in
+    omega (arith, left.within)
 
 pub returns : goal.returns
 returns c =
     let plane : SFits w64 c.args.plane = search rules in
-    let same = to_z-of_z w64 c.args.plane plane in
-    let some = rw (same) at c.first_gap.ensures.some in
-    let first = first_in c.args.frame.away.forward _ _ c.args.plane _ c.in-Some.gap c.coordinates-coordinates.ensures.same c.in-Some.is some in
-    let told = rw (same) at c.holds_left.ensures in
-    kept_draw c.args.frame c.requires (coordinates_of c.args.grid.now) (λ a. (c.coordinates-coordinates.ensures.kept.2.coordinates a).ordered) c.args.cells.now c.args.plane
-    c.in-Some.gap first c.args.area (subst (λ (zs : List ℤ). IsTrue c.args.area → ReachesPlane c.args.frame.away.forward zs c.args.plane c.in-Some.gap)
-    c.coordinates-coordinates.ensures.same (told.0 c.if-not-holds_left.false)) c.in_ok-kept.kept.items c.in_ok-kept.ensures
+    let told = rw (to_z-of_z w64 c.args.plane plane) at c.cut_gap.ensures in
+    (told_of _ _ _ _ c.in-Some.is told).draws c.args.cells.now c.in_ok-kept.kept.items c.in_ok-kept.ensures

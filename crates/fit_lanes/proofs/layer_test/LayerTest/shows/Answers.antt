@@ -1,6 +1,6 @@
 -- A choice has a solid, which shows the layer or doesn't.
 use Rattle.std.proofs.Common.{◌≡◌, ◌↔◌, Bool, List, IsTrue, ◌∙◌, sym, subst}
-use Rattle.std.specs.Prelude.{IfOk}
+use Rattle.std.specs.Prelude.{IfOk, IfSome}
 use Rattle.std.proofs.lemmas.Result.{IfOk-weaker}
 use Rattle.solid_model.specs.Cells.{is_full}
 use Rattle.solid_model.specs.Choices.{cells_of_choice}
@@ -15,8 +15,9 @@ returns-in-Some-clause-told c =
     let a : LayerAsked = record { problem = c.self.inside.problem.now; asked = record { layer = c.self.inside.layer; runs = c.self.inside.shown.now } } in
     let choice = c.args.choice.now in
     let is : IsGrid a.problem.grid = subst IsGrid c.grid-grid.ensures.grid c.coordinates-xs.ensures.kept in
-    let tells = subst (λ (b : LayerAsked). TellsLayer b choice c.in-Some.told) (sym c.self.view_is) c.in-Some.ensures.told in
-    subst (λ (b : LayerAsked). IsTrue c.in-Some.told ↔ ShowsIn b choice) c.self.view_is (of_solids a is choice c.in-Some.told tells)
+    let own = subst (λ o. IfSome o (λ test. test ≡ a)) c.in-Some.is c.self.invariant in
+    subst (λ (b : LayerAsked). IfOk c.shows.result (λ yes. IsTrue yes ↔ ShowsIn b choice)) c.self.view_is
+    (IfOk-weaker c.shows.result _ _ (λ yes tells. of_solids a is choice yes (subst (λ (b : LayerAsked). TellsLayer b choice yes) own tells)) c.shows.ensures.told)
 
 pub returns-clause-told : goal.returns-clause-told
 returns-clause-told c =
@@ -25,7 +26,7 @@ returns-clause-told c =
     let chosen : List Bool = cells_of_choice a.problem.blocks.numbers choice in
     let is : IsGrid a.problem.grid = subst IsGrid c.grid-grid.ensures.grid c.coordinates-xs.ensures.kept in
     let cells : c.deref.result.now ≡ chosen = c.deref.ensures.value ∙ c.in_ok-cells.ensures in
-    subst (λ (b : LayerAsked). IfOk c.shows.result (λ yes. IsTrue yes ↔ ShowsIn b choice)) c.self.view_is
-    (IfOk-weaker c.shows.result _ _ (λ yes tells. of_solids a is choice yes (λ s fills. tells s
+    subst (λ (b : LayerAsked). IfOk c.shows-2.result (λ yes. IsTrue yes ↔ ShowsIn b choice)) c.self.view_is
+    (IfOk-weaker c.shows-2.result _ _ (λ yes tells. of_solids a is choice yes (λ s fills. tells s
     (subst (λ bs. IsUnionOf (coordinates_of c.grid-grid.result.now) bs (is_full s)) (sym cells)
-    (subst (λ (g : GridParts). IsUnionOf (coordinates_of g) chosen (is_full s)) (sym c.grid-grid.ensures.grid) fills)))) c.shows.ensures)
+    (subst (λ (g : GridParts). IsUnionOf (coordinates_of g) chosen (is_full s)) (sym c.grid-grid.ensures.grid) fills)))) c.shows-2.ensures)

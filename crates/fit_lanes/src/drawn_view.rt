@@ -1,0 +1,152 @@
+//! What a layer's view draws of choices.
+
+ghost use Rattle.std.specs.Prelude.{◌≡◌, ℕ, List, length, MatchOption};
+ghost use Rattle.cell_rows.specs.Spans.{AreFilled};
+ghost use Rattle.fit_lanes.specs.Cuts.{LayerKeeps, AreLeftColumns};
+
+use crate::busy_points::busy_points;
+use crate::cuts::leave;
+use crate::points::{draw, first_line};
+use crate::sights::sights;
+use cell_rows::{BlockRows, RowSpans};
+use further_views::Layer;
+use six_views::sight_frame;
+use solid_model::{Axis, Choice, Memory, Problem};
+use std::alloc::Global;
+use std::marker::Model;
+
+/// The view of a layer on a problem's grid, whole or of the depths that a cut keeps, and what was
+/// drawn of a choice last. Contracts see the problem, the layer and the bytes that are drawn.
+#[derive(Debug, Drop)]
+pub struct DrawnView<'a> {
+    problem: &'a Problem,
+    layer: Layer,
+    kept: Option<u64>,
+    width: usize,
+    height: usize,
+    sights: RowSpans,
+    busy: Vec<usize>,
+    columns: Vec<u64>,
+    level: Vec<u8>,
+    upright: Vec<u8>,
+}
+
+impl<'a> Model for DrawnView<'a> {
+    ghost use Rattle.fit_lanes.specs.Drawn.{DrawnParts};
+    ghost use Rattle.fit_lanes.specs.Kept.{IsRoomOf};
+
+    ghost Value = { DrawnParts };
+
+    ghost view = { λ s. record {
+      problem = s.problem.now;
+      layer = s.layer;
+      level = s.level.items;
+      upright = s.upright.items;
+    } };
+
+    ghost invariant = { λ s. IsRoomOf s.problem.now s.layer s.kept s.width s.height s.sights
+        s.busy.items s.columns.items s.level.items s.upright.items };
+}
+
+/// Puts in columns what a choice fills behind the points, as far as it is left.
+fn fill_left(sights: &RowSpans, kept: Option<u64>, choice: &Choice, columns: &mut [u64])
+    requires { length columns.old ≡ length sights.now }
+    ensures count { length columns.new ≡ length columns.old }
+    ensures left { (filled : List ℕ) × AreFilled choice.now sights.now filled
+        × (length filled ≡ length columns.old)
+        × MatchOption kept (columns.new ≡ filled)
+        (λ kept. AreLeftColumns kept filled columns.new) }
+{
+    sights.fill(choice, columns);
+    leave(kept, columns);
+}
+
+impl<'a> DrawnView<'a> {
+    ghost use Rattle.std.specs.Prelude.{◌≡◌, IfOk};
+    ghost use Rattle.fit_lanes.specs.Drawn.{IsViewOf};
+    ghost use Rattle.solid_model.specs.Panels.{coordinates_of};
+
+    /// The view of a layer, of which no choice is drawn yet. An `Err` is out of memory.
+    pub fn of(
+        alloc: Global,
+        problem: &'a Problem,
+        rows: &BlockRows<'_>,
+        layer: Layer,
+        kept: Option<u64>,
+    ) -> Result<DrawnView<'a>, Memory>
+        requires rows { rows.now ≡ problem.now.blocks }
+        requires kept { LayerKeeps (coordinates_of problem.now.grid) layer kept }
+        ensures { IfOk result (IsViewOf problem.now layer) }
+    {
+        let grid = problem.grid();
+        // A look at the grid's coordinates tells that they ascend.
+        let _xs = grid.coordinates(Axis::X);
+        let sizes = grid.sizes();
+        let frame = sight_frame(layer);
+        let (width, height) = (sizes.along(frame.right.axis), sizes.along(frame.up.axis));
+        let points = (height + 1) * (width + 1);
+        let sights = sights(alloc, rows, sizes, layer)?;
+        let busy = busy_points(alloc, &sights, width + 1)?;
+        let columns = vec![in alloc; 0; sights.count()]?;
+        let level = vec![in alloc; 0; points]?;
+        let upright = vec![in alloc; 0; points]?;
+        Ok(DrawnView {
+            problem,
+            layer,
+            kept,
+            width,
+            height,
+            sights,
+            busy,
+            columns,
+            level,
+            upright,
+        })
+    }
+}
+
+impl DrawnView<'_> {
+    ghost use Rattle.std.specs.Prelude.{◌≡◌, MatchOption};
+    ghost use Rattle.fit_lanes.specs.Drawn.{bytes_along, DrawsChoice, DrawsNoLine, IsFirstLine, IsViewOf};
+    ghost use Rattle.fit_lanes.specs.Sights.{width, height};
+    ghost use Rattle.solid_model.specs.GridBox.{grid_sizes};
+
+    /// Draws what is seen of the solid that a choice fills.
+    pub fn draw(&mut self, choice: &Choice)
+        ensures same { IsViewOf self.old.problem self.old.layer self.new }
+        ensures drawn { DrawsChoice self.new choice.now }
+    {
+        let columns = self.columns.as_mut_slice();
+        fill_left(&self.sights, self.kept, choice, columns);
+        let (columns, points) = (self.columns.as_slice(), self.busy.as_slice());
+        let stride = self.width + 1;
+        let level = self.level.as_mut_slice();
+        draw(columns, stride, false, points, level);
+        let upright = self.upright.as_mut_slice();
+        draw(columns, stride, true, points, upright);
+    }
+
+    /// The bytes of the level, or the upright, segments that are drawn.
+    pub fn bytes(&self, upright: bool) -> &[u8]
+        ensures { result.now ≡ bytes_along upright self.now }
+    {
+        if upright {
+            self.upright.as_slice()
+        } else {
+            self.level.as_slice()
+        }
+    }
+
+    /// The first level, or upright, line of the grid on which something is drawn.
+    pub fn first_line(&self, upright: bool) -> Option<usize>
+        ensures { MatchOption result
+            (DrawsNoLine (width self.now.layer (grid_sizes self.now.problem.grid))
+            (height self.now.layer (grid_sizes self.now.problem.grid)) upright
+            (bytes_along upright self.now))
+            (IsFirstLine (width self.now.layer (grid_sizes self.now.problem.grid))
+            (height self.now.layer (grid_sizes self.now.problem.grid)) upright
+            (bytes_along upright self.now)) }
+    {
+        first_line(self.bytes(upright), self.width, self.height, upright)
+    }
+}
