@@ -30,8 +30,7 @@ fn find_in(alloc: Global, profile: &Profile, file: Vec<u8>) -> Result<Found, Mem
     requires { length file.items ≤ profile.now.most }
     ensures { IfOk result (IsFoundIn (input_of profile.now file.items)) }
 {
-    // A look that tells that no profile takes more bytes than a text may have.
-    let _most = profile.most();
+    profile.known();
     match problem_with_rest(alloc, file, profile.form(), profile.two_views()) {
         Ok((problem, further, rest)) => Ok(Found::Problem(FoundProblem {
             sought: Sought { problem, further },
