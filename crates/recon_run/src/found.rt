@@ -7,9 +7,8 @@ ghost use Rattle.recon_run.specs.Searched.{IsFoundIn};
 ghost use Rattle.tv_base.specs.Faults.{Rose};
 ghost use Rattle.tv_base.specs.Pieces.{ReadsWithin};
 
-use crate::found_problem::FoundProblem;
 use crate::profile::Profile;
-use crate::sought::Sought;
+use crate::sought::{FoundProblem, Sought};
 use file_problem::problem_with_rest;
 use replies::Failure;
 use solid_model::{Fault, Memory, Refused};
