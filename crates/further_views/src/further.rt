@@ -1,8 +1,5 @@
 //! The views and sections that are asked for.
 
-ghost use Rattle.std.specs.Prelude.{Bool, IsTrue};
-ghost use Rattle.solid_model.specs.Runs.{AreRuns, runs_along};
-
 use dxf_entities::Layer;
 use solid_model::ViewLines;
 use std::marker::Model;
@@ -23,15 +20,17 @@ impl Model for AskedView {
     ghost view = { λ s. record { layer = s.layer; runs = s.lines } };
 }
 
-/// It is asked for.
-fn is_asked(view: &AskedView) -> bool
-    ensures asked { IsTrue result }
-    ensures runs { (upright : Bool) → AreRuns (runs_along upright view.now.runs) }
-{
-    // Looks at its lists tell that they are lists of runs.
-    let _level = view.lines.level.as_slice();
-    let _upright = view.lines.upright.as_slice();
-    true
+impl AskedView {
+    ghost use Rattle.std.specs.Prelude.{Bool};
+    ghost use Rattle.solid_model.specs.Runs.{AreRuns, runs_along};
+
+    /// Its lists are lists of runs.
+    pub fn known(&self)
+        ensures { (upright : Bool) → AreRuns (runs_along upright self.now.runs) }
+    {
+        let _ = self.lines.level.as_slice();
+        let _ = self.lines.upright.as_slice();
+    }
 }
 
 /// The layers that ask for something, each once, in the order of their first lines.
@@ -66,15 +65,19 @@ impl Further {
         self.views.as_slice()
     }
 
+    /// Each view has lists of runs.
+    pub fn known(&self)
+        ensures { HasRuns self.now }
+    {
+        for view in self.views.as_slice() {
+            view.known();
+        }
+    }
+
     /// Whether something is asked for.
     pub fn asks(&self) -> bool
-        ensures none { result ≡ false → AsksForNone self.now }
-        ensures runs { HasRuns self.now }
+        ensures { result ≡ false → AsksForNone self.now }
     {
-        let mut asks = false;
-        for view in self.views.as_slice() {
-            asks = is_asked(view);
-        }
-        asks
+        !self.views.is_empty()
     }
 }

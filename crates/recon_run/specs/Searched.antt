@@ -15,12 +15,13 @@ use Rattle.recon_run.specs.declared.export.Export.TheVariants.{Drawing, Triangle
 use Rattle.recon_run.specs.declared.question.Question.{Question}
 use Rattle.recon_run.specs.declared.question.Question.TheVariants as question
 use Rattle.recon_run.specs.Answers.{TellsNumbered, numbered_answer}
+use Rattle.recon_run.specs.Endings.{Ends}
 use Rattle.recon_run.specs.Readers.{TellsListed}
 use Rattle.replies.specs.declared.status.Answer.TheVariants as answers
 use Rattle.replies.specs.Status.{end_answer}
 use Rattle.search_end.specs.declared.ending.SearchEnd.{SearchEnd as EndOfSearch}
 use Rattle.search_end.specs.declared.ending.SearchEnd.TheVariants.{Ended, Stopped}
-use Rattle.recon_run.specs.Owed.{Asked, ProfileParts, blocks_judgement, input_of, judged, judgement_of, log_judgement, search_for_all, search_for_log, search_for_one, searched, session_judgement}
+use Rattle.recon_run.specs.Owed.{Asked, Owed, ProfileParts, alone, blocks_judgement, input_of, judged, judgement_of, log_judgement, read, search_for_all, search_for_log, search_for_one, searched, session_judgement}
 use Rattle.redraw.specs.Files.{IsFileOf}
 use Rattle.replies.specs.Status.{Status}
 use Rattle.replies.specs.Writings.{EndsWriting}
@@ -39,6 +40,7 @@ use Rattle.solid_model.specs.Choices.{AreSolidsOfChoices}
 use Rattle.solid_model.specs.Forcing.{is_live}
 use Rattle.solid_model.specs.Limits.{most_solid_limit}
 use Rattle.lemmas.specs.Lists.{Each}
+use Rattle.tv_base.specs.Faults.{Rose}
 use Rattle.solid_model.specs.Matching.{Matches}
 use Rattle.solid_model.specs.Orders.{IsInStatedForm}
 use Rattle.solid_model.specs.Panels.{coordinates_of, IsGridOf}
@@ -144,6 +146,18 @@ asked_of (question.Log limits) = searched (search_for_log limits)
 asked_of question.Check = judged log_judgement
 asked_of question.Blocks = judged blocks_judgement
 asked_of (question.Session limits) = judged (session_judgement limits)
+
+-- what is owed is read so
+abbrev pub ReadsIn : Owed → ProfileParts → Type 0
+ReadsIn (read profile asked) made = made ≡ profile
+ReadsIn (alone answer tells) made = ⊥
+
+-- what is owed asks this: what answers the question ends as it is owed, whatever faults were counted
+abbrev pub AsksFor : Owed → Question → Type 0
+AsksFor (read profile asked) q = (left rest held now : Option (List ℕ)) (read_before read_after written_before written_after : ℕ) (status : Status)
+    → Ends (read profile (asked_of q)) left rest held now (Rose read_before read_after) (Rose written_before written_after) status
+    → Ends (read profile asked) left rest held now (Rose read_before read_after) (Rose written_before written_after) status
+AsksFor (alone answer tells) q = ⊥
 
 -- so ends the writing of what answers a question about an input that is read so and by which this is sought
 abbrev pub AnswersQuestion : Question → ProfileParts → Sought → Option (List ℕ) → Option (List ℕ) → Type 0 → Status → Type 0

@@ -1,6 +1,6 @@
 //! The run of a command.
 
-ghost use Rattle.std.specs.Prelude.{◌≡◌, false, length, map, string_bytes, Err};
+ghost use Rattle.std.specs.Prelude.{◌≡◌, false, true, length, map, string_bytes, Err};
 ghost use Rattle.replies.specs.declared.status.Answer.TheVariants as answers;
 ghost use Rattle.replies.specs.declared.status.Failure.TheVariants.{ReadFault, WriteFault};
 ghost use Rattle.file_problem.specs.Inputs.{HasNoFault, IsFileFault};
@@ -8,11 +8,12 @@ ghost use Rattle.recon_run.specs.Answers.{CanEnd};
 ghost use Rattle.recon_run.specs.Endings.{AnswersOrFails, Ends, EndsOrFails, OfAlone, OfInput, OfSearch, owed_to};
 ghost use Rattle.recon_run.specs.Owed.{most_read, owed_for, reads_source};
 ghost use Rattle.replies.specs.Status.{Status, status_code, failure_code};
+ghost use Rattle.recon_run.specs.Searched.{AsksFor, ReadsIn};
 ghost use Rattle.solid_model.specs.declared.ended.EndKind.TheVariants.{Whole};
 ghost use Rattle.solid_model.specs.declared.fault.Fault.{Fault};
 ghost use Rattle.tv_base.specs.Faults.{Rose};
 ghost use Rattle.tv_base.specs.Pieces.{ReadsWithin};
-ghost use Rattle.words.specs.Jobs.{IsCounted};
+ghost use Rattle.words.specs.Jobs.{AreWorkers, IsCounted};
 
 use crate::answering::answer_source;
 use crate::crew::Crew;
@@ -31,8 +32,89 @@ use words::{Job, WordFault, job_of};
 /// The usage line.
 const USAGE: &str = "usage: recon solve|redraw|make|trial\n";
 
-/// Does a job over what the source has left: each job that reads it picks how that is read and the
-/// form of the answer.
+/// How many work at a job.
+fn workers_of(job: &Job) -> u32
+    requires { IsCounted job.now }
+    ensures { AreWorkers result }
+{
+    match *job {
+        Job::Solve { workers, .. } => workers,
+        Job::Redraw { workers, .. } => workers,
+        Job::Stl { workers, .. } => workers,
+        Job::Prove { workers, .. } => workers,
+        Job::Ask { workers, .. } => workers,
+        Job::Trial { workers, .. } => workers,
+        Job::Check { .. } | Job::Blocks { .. } | Job::Make { .. } => 1,
+    }
+}
+
+/// How what a job reads is read.
+fn profile_of(job: &Job) -> Profile
+    requires counted { IsCounted job.now }
+    requires reads { reads_source (owed_for job.now) ≡ true }
+    ensures { ReadsIn (owed_for job.now) result }
+{
+    match *job {
+        Job::Solve {
+            decimals,
+            two_views,
+            sections,
+            ..
+        } => Profile::drawing(layers_or(sections, LayerSet::Six), decimals, two_views),
+        Job::Redraw {
+            decimals,
+            two_views,
+            sections,
+            ..
+        } => Profile::drawing(layers_or(sections, LayerSet::Six), decimals, two_views),
+        Job::Stl {
+            two_views,
+            sections,
+            ..
+        } => Profile::drawing(layers_or(sections, LayerSet::Main), 0, two_views),
+        Job::Prove { two_views, .. } => Profile::drawing(LayerSet::Main, 0, two_views),
+        Job::Ask { two_views, .. } => Profile::drawing(LayerSet::Main, 0, two_views),
+        Job::Check {
+            two_views,
+            sections,
+        } => Profile::with_log(layers_or(sections, LayerSet::Main), two_views),
+        Job::Blocks {
+            decimals,
+            two_views,
+        } => Profile::drawing(LayerSet::Main, decimals, two_views),
+        Job::Make { .. } => unreachable!(),
+        Job::Trial { .. } => unreachable!(),
+    }
+}
+
+/// What a job asks of what it reads.
+fn question_of(job: &Job) -> Question
+    requires counted { IsCounted job.now }
+    requires reads { reads_source (owed_for job.now) ≡ true }
+    ensures { AsksFor (owed_for job.now) result }
+{
+    match *job {
+        Job::Solve { limits, pages, .. } => Question::AllSolids(AllSolids { limits, pages }),
+        Job::Redraw { which, limits, .. } => Question::OneSolid(OneSolid {
+            export: Export::Drawing,
+            which,
+            limits,
+        }),
+        Job::Stl { which, limits, .. } => Question::OneSolid(OneSolid {
+            export: Export::Triangles,
+            which,
+            limits,
+        }),
+        Job::Prove { limits, .. } => Question::Log(limits),
+        Job::Check { .. } => Question::Check,
+        Job::Ask { limits, .. } => Question::Session(limits),
+        Job::Blocks { .. } => Question::Blocks,
+        Job::Make { .. } => unreachable!(),
+        Job::Trial { .. } => unreachable!(),
+    }
+}
+
+/// Does a job over what the source has left.
 fn do_job<R: Threads + Wait + Sync, S: Source, K: Sink, G: Gate>(
     rt: &R,
     alloc: Global,
@@ -50,110 +132,16 @@ fn do_job<R: Threads + Wait + Sync, S: Source, K: Sink, G: Gate>(
         (most_read (owed_for job)) }
     ensures unwritten { result ≡ Err ReadFault → sink.new ≡ sink.old }
 {
+    let workers = workers_of(&job);
+    let crew = Crew { rt, workers, gate };
     match job {
-        Job::Solve {
-            workers,
-            limits,
-            pages,
-            decimals,
-            two_views,
-            sections,
-        } => {
-            let crew = Crew { rt, workers, gate };
-            let layers = layers_or(sections, LayerSet::Six);
-            let profile = Profile::drawing(layers, decimals, two_views);
-            let question = Question::AllSolids(AllSolids { limits, pages });
-            answer_source(alloc, &crew, &profile, &question, source, sink)
-        }
-        Job::Redraw {
-            which,
-            workers,
-            limits,
-            decimals,
-            two_views,
-            sections,
-        } => {
-            let crew = Crew { rt, workers, gate };
-            let layers = layers_or(sections, LayerSet::Six);
-            let profile = Profile::drawing(layers, decimals, two_views);
-            let question = Question::OneSolid(OneSolid {
-                export: Export::Drawing,
-                which,
-                limits,
-            });
-            answer_source(alloc, &crew, &profile, &question, source, sink)
-        }
-        Job::Stl {
-            which,
-            workers,
-            limits,
-            two_views,
-            sections,
-        } => {
-            let crew = Crew { rt, workers, gate };
-            let layers = layers_or(sections, LayerSet::Main);
-            let profile = Profile::drawing(layers, 0, two_views);
-            let question = Question::OneSolid(OneSolid {
-                export: Export::Triangles,
-                which,
-                limits,
-            });
-            answer_source(alloc, &crew, &profile, &question, source, sink)
-        }
-        Job::Prove {
-            workers,
-            limits,
-            two_views,
-        } => {
-            let crew = Crew { rt, workers, gate };
-            let profile = Profile::drawing(LayerSet::Main, 0, two_views);
-            answer_source(alloc, &crew, &profile, &Question::Log(limits), source, sink)
-        }
-        Job::Check {
-            two_views,
-            sections,
-        } => {
-            let crew = Crew {
-                rt,
-                workers: 1,
-                gate,
-            };
-            let layers = layers_or(sections, LayerSet::Main);
-            let profile = Profile::with_log(layers, two_views);
-            answer_source(alloc, &crew, &profile, &Question::Check, source, sink)
-        }
-        Job::Ask {
-            workers,
-            limits,
-            two_views,
-        } => {
-            let crew = Crew { rt, workers, gate };
-            let profile = Profile::drawing(LayerSet::Main, 0, two_views);
-            answer_source(
-                alloc,
-                &crew,
-                &profile,
-                &Question::Session(limits),
-                source,
-                sink,
-            )
-        }
-        Job::Blocks {
-            decimals,
-            two_views,
-        } => {
-            let crew = Crew {
-                rt,
-                workers: 1,
-                gate,
-            };
-            let profile = Profile::drawing(LayerSet::Main, decimals, two_views);
-            answer_source(alloc, &crew, &profile, &Question::Blocks, source, sink)
-        }
         Job::Make { n } => write_reply(Answer::Done, made_file(alloc, n)?.as_slice(), sink),
-        Job::Trial { n, workers } => {
-            let crew = Crew { rt, workers, gate };
+        Job::Trial { n, .. } => {
             write_reply(Answer::Done, trial(alloc, n, &crew)?.as_slice(), sink)
+        }
+        _ => {
+            let (profile, question) = (profile_of(&job), question_of(&job));
+            answer_source(alloc, &crew, &profile, &question, source, sink)
         }
     }
 }

@@ -7,9 +7,8 @@ ghost use Rattle.recon_run.specs.Searched.{IsFoundIn};
 ghost use Rattle.tv_base.specs.Faults.{Rose};
 ghost use Rattle.tv_base.specs.Pieces.{ReadsWithin};
 
-use crate::found_problem::FoundProblem;
 use crate::profile::Profile;
-use crate::sought::Sought;
+use crate::sought::{FoundProblem, Sought};
 use file_problem::problem_with_rest;
 use replies::Failure;
 use solid_model::{Fault, Memory, Refused};
@@ -30,8 +29,7 @@ fn find_in(alloc: Global, profile: &Profile, file: Vec<u8>) -> Result<Found, Mem
     requires { length file.items ≤ profile.now.most }
     ensures { IfOk result (IsFoundIn (input_of profile.now file.items)) }
 {
-    // A look that tells that no profile takes more bytes than a text may have.
-    let _most = profile.most();
+    profile.known();
     match problem_with_rest(alloc, file, profile.form(), profile.two_views()) {
         Ok((problem, further, rest)) => Ok(Found::Problem(FoundProblem {
             sought: Sought { problem, further },

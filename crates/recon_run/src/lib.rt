@@ -10,7 +10,6 @@ mod command;
 mod crew;
 mod export;
 mod found;
-mod found_problem;
 mod laws;
 mod log;
 mod one_solid;

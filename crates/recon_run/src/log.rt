@@ -47,8 +47,7 @@ pub fn answer_log<R: Threads + Wait + Sync, G: Gate, K: Sink>(
 {
     let Sought { problem, further } = sought;
     let found = search(alloc, problem, *limits, crew)?;
-    // A look at how the search ended tells that it found few solids.
-    let _few = found.ended();
+    found.known();
     let searched = found.fitting(alloc, &further)?;
     match searched.ended().kind {
         EndKind::Whole => {

@@ -87,6 +87,13 @@ impl Profile {
         }
     }
 
+    /// It takes no more bytes than a text may have.
+    pub fn known(&self)
+        ensures { self.now.most ≤ most_text_bytes }
+    {
+        let _ = &self.most;
+    }
+
     /// How many bytes the input may have at most.
     pub fn most(&self) -> usize
         ensures most { result ≡ self.now.most }

@@ -54,6 +54,13 @@ impl Searched {
         Searched { problem, ended }
     }
 
+    /// It has no more solids than a limit can be.
+    pub fn known(&self)
+        ensures { HasFewSolids self.now }
+    {
+        let _ = &self.ended;
+    }
+
     /// The problem.
     pub fn problem(&self) -> &Problem
         ensures { result.now ≡ self.now.problem }
@@ -64,7 +71,6 @@ impl Searched {
     /// How the search of it ended.
     pub fn ended(&self) -> &Ended
         ensures same { result.now ≡ self.now.ended }
-        ensures few { HasFewSolids self.now }
     {
         &self.ended
     }

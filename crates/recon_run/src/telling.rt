@@ -51,8 +51,7 @@ fn told_from<R: Threads + Wait + Sync, K: Sink, G: Gate, B: Begun>(
 {
     let Sought { problem, further } = sought;
     problem.known();
-    // A look at the further views tells that their lists are lists of runs.
-    let _asks = further.asks();
+    further.known();
     let Ok(problem) = Arc::new(alloc, problem) else {
         return (sink, Err(Failure::Memory));
     };

@@ -8,7 +8,6 @@ ghost use Rattle.search_core.specs.Desk.{IsDesk};
 ghost use Rattle.search_tree.specs.BlockPaths.{IsWayOf};
 ghost use Rattle.search_end.specs.GoingOn.{DeskGoesOn};
 
-use crate::kept::keep_all;
 use search_core::{Desk, Reported};
 use search_tree::{BlockPath, expand_from};
 use solid_model::{EndKind, Memory, Prefix, Problem};
@@ -17,6 +16,16 @@ use std::collections::VecDeque;
 
 /// How many live prefixes a piece is expanded into at most, before it is reported.
 pub const QUANTUM: u32 = 64;
+
+/// Keeps a rest behind the other pieces, so that its first one is taken from the end next: it is
+/// the deepest, and the first in the stated order. All stand in the frontier of the desk too, so a
+/// piece for which there is no memory is left to who takes the frontier's first piece.
+pub fn keep_all(kept: &mut VecDeque<Prefix>, rest: Vec<Prefix>) {
+    let mut rest = rest;
+    while let Some(piece) = rest.pop() {
+        let _kept = kept.push_back(piece);
+    }
+}
 
 /// Expands a piece by a way down the tree of the desk's problem and reports it. Its rest is kept
 /// where the report is taken. An `Err` is out of memory.

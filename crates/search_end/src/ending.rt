@@ -62,21 +62,9 @@ fn own_desk(
     }
 }
 
-/// This desk once it has ended: the events that are missing are made, by a way down the tree of
-/// their own. An `Err` is out of memory.
-fn ended_desk(alloc: Global, problem: &Arc<Problem>, desk: Desk) -> Result<Desk, Memory>
-    requires problem { desk.problem ≡ arc_value problem.now }
-    ensures problem { IfOk result (λ ended. ended.problem ≡ arc_value problem.now) }
-    ensures limits { IfOk result (λ ended. ended.limits ≡ desk.limits) }
-    ensures ended { IfOk result (λ ended. ended.end ≢ None) }
-{
-    let mut path = BlockPath::new(alloc, problem)?;
-    let (ended, _) = go_on(alloc, &mut path, problem, desk)?;
-    Ok(ended)
-}
-
 /// The desk at which a search ends: this one, or a new one where it is of another search. Where it
-/// is to go on it has ended. An `Err` is out of memory.
+/// is to go on it has ended: the events that are missing are made, by a way down the tree of their
+/// own. An `Err` is out of memory.
 fn last_desk(
     alloc: Global,
     problem: &Arc<Problem>,
@@ -89,10 +77,12 @@ fn last_desk(
     ensures going { IfOk result (λ last. last.end ≡ None → goes_on ≡ false) }
 {
     let desk = own_desk(alloc, problem, limits, desk)?;
-    if goes_on && desk.end().is_none() {
-        return ended_desk(alloc, problem, desk);
+    if !goes_on || desk.end().is_some() {
+        return Ok(desk);
     }
-    Ok(desk)
+    let mut path = BlockPath::new(alloc, problem)?;
+    let (ended, _) = go_on(alloc, &mut path, problem, desk)?;
+    Ok(ended)
 }
 
 /// What a desk has found besides what was handed out, as far as the limit of solids has room. An

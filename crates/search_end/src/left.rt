@@ -24,7 +24,8 @@ use std::vec::IntoIter;
 
 /// Whether two choices are the same.
 fn same_choice(a: &Choice, b: &Choice) -> bool
-    ensures { result ≡ same_values a.now b.now }
+    ensures value { result ≡ same_values a.now b.now }
+    ensures same { IsTrue result ↔ (a.now ≡ b.now) }
 {
     if a.len() != b.len() {
         return false;
@@ -47,13 +48,6 @@ fn is_among(choice: &Choice, choices: &[Choice]) -> bool
     false
 }
 
-/// Whether two choices are the same, as an equation.
-fn is_same(a: &Choice, b: &Choice) -> bool
-    ensures { IsTrue result ↔ (a.now ≡ b.now) }
-{
-    same_choice(a, b)
-}
-
 /// Whether a list begins with another one.
 fn begins_with(choices: &[Choice], first: &[Choice]) -> bool
     ensures { IsTrue result → (rest : List (List Bool)) × (choices.now ≡ first.now ++ rest) }
@@ -62,7 +56,7 @@ fn begins_with(choices: &[Choice], first: &[Choice]) -> bool
         return false;
     }
     for at in 0..first.len() {
-        if !is_same(&choices[at], &first[at]) {
+        if !same_choice(&choices[at], &first[at]) {
             return false;
         }
     }

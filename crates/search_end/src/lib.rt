@@ -9,16 +9,14 @@ mod desk_search;
 mod ending;
 mod handed;
 mod joined;
-mod kept;
 mod laws;
 mod left;
 mod turns;
 
 pub use beginning::{begin, set_up};
-pub use desk_search::QUANTUM;
+pub use desk_search::{QUANTUM, keep_all};
 pub use ending::{SearchEnd, end_search, finish};
 pub use handed::{Handed, PAGE};
 pub use joined::join_choices;
-pub use kept::keep_all;
 pub use laws::stopped_searches_are_open;
 pub use turns::Mark;

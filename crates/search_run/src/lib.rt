@@ -8,9 +8,7 @@ mod paging;
 mod running;
 mod search;
 mod shared;
-mod starting;
 mod worker;
-mod working;
 mod workshop;
 
 pub use monitor::Monitor;
@@ -19,5 +17,5 @@ pub use page_calls::{NoPages, PageOut, RunFault};
 pub use running::run_search;
 pub use search::{Search, SearchSeat};
 pub use search_end::SearchEnd;
-pub use starting::start_workers;
+pub use worker::start_workers;
 pub use workshop::Workshop;

@@ -16,7 +16,7 @@ ghost use Rattle.page_calls.specs.Pages.{CountsFaults, HasPaged, HasAllPaged};
 
 use crate::opening::{Opened, open_at};
 use crate::paging::page_all;
-use crate::starting::start_workers;
+use crate::worker::start_workers;
 use crate::workshop::Workshop;
 use page_calls::{PageOut, RunFault};
 use search_core::Desk;

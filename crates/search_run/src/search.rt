@@ -16,7 +16,7 @@ ghost use Rattle.steal_pool.specs.WorkerSeats.{state_of};
 
 use crate::monitor::Monitor;
 use crate::opening::{Opened, open_at, readers_of};
-use crate::working::work_at_seat;
+use crate::worker::work_at_seat;
 use crate::workshop::Workshop;
 use page_calls::NoPages;
 use query_session::Waiter;

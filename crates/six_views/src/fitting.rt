@@ -16,7 +16,7 @@ use crate::moved::{first_line, views_are_moved};
 use crate::seen::seen_lines;
 use further_views::{Cut, Further, Layer};
 use section_laws::cells_left;
-use solid_model::{Axis, Choice, Grid, Memory, Problem, ViewLines};
+use solid_model::{Choice, Grid, Memory, Problem, ViewLines};
 use std::alloc::Global;
 
 /// Whether a layer's whole view of the chosen cells of a grid, moved to least coordinates 0, shows
@@ -59,8 +59,7 @@ fn shows_left(
         → (IsTrue yes ↔ ShowsLeft (sight_frame layer) cut s (view_style shown.now)
         layer.view)) }
 {
-    // A look at the grid's coordinates tells that they ascend.
-    let _xs = grid.coordinates(Axis::X);
+    grid.known();
     let left = cells_left(alloc, grid, sight_frame(layer), cut.at, cut.area, cells)?;
     let Some(kept) = left else {
         return Ok(false);

@@ -1,16 +1,16 @@
 -- What is made from a number is owed.
-use Rattle.std.proofs.Common.{◌≡◌, Bool, ℕ, List, Option, refl, ap, sym, subst, ◌∙◌}
+use Rattle.std.proofs.Common.{◌≡◌, ◌+◌, ℕ, List, Option, refl, sym, subst}
 use Rattle.tv_base.specs.Faults.{Rose}
-use Rattle.dxf_entities.specs.declared.layer_set.LayerSet.{LayerSet}
-use Rattle.dxf_entities.specs.declared.layer_set.LayerSet.TheVariants.{Main, Six}
+use Rattle.tv_base.specs.Pieces.{ReadsWithin}
 use Rattle.drawing_maker.specs.Made.{made_solid}
 use Rattle.replies.specs.declared.status.Answer.TheVariants as answers
 use Rattle.recon_run.specs.Answers.{IsTried}
 use Rattle.recon_run.specs.Endings.{Ends}
 use Rattle.replies.specs.Status.{Status}
 use Rattle.replies.specs.Writings.{IsReply}
-use Rattle.recon_run.specs.Owed.{Asked, Owed, ProfileParts, drawing_profile, judged, layers_or, log_judgement, log_profile, owed_for, read, search_for_all, search_for_one, searched}
-use Rattle.stl_out.specs.SolidStl.{IsSolidStl}
+use Rattle.recon_run.specs.Owed.{Owed, ProfileParts, alone, most_read, owed_for, read}
+use Rattle.recon_run.specs.Searched.{AsksFor, ReadsIn, asked_of}
+use Rattle.recon_run.specs.declared.question.Question.{Question}
 use Rattle.recon_run.proofs.Endings.{never_unread, reply_ends}
 use Rattle.redraw.specs.Files.{IsFileOf}
 use Rattle.words.specs.declared.job.Job.{Job}
@@ -51,59 +51,27 @@ returns-in_ok-trial-in-Trial-clause-unwritten g c failed =
     absurd (never_unread right right (g.K.Sink.held c.args.sink.now) (g.K.Sink.held c.write_reply-in-Trial.new.sink)
     (Rose (g.K.Sink.faults c.args.sink.now) (g.K.Sink.faults c.write_reply-in-Trial.new.sink)) c.write_reply-in-Trial.result c.write_reply-in-Trial.ensures failed)
 
--- what is read in a profile is owed where it is the job's
-module _ (left rest held now : Option (List ℕ)) (source_rose sink_rose : Type 0) (status : Status) where
+-- what ends as it is read and asked ends as it is owed
+module _ (left rest held now : Option (List ℕ)) (read_before read_after written_before written_after : ℕ) (status : Status) where
   abbrev EndsSo : Owed → Type 0
-  EndsSo o = Ends o left rest held now source_rose sink_rose status
+  EndsSo o = Ends o left rest held now (Rose read_before read_after) (Rose written_before written_after) status
 
-  owed_so : (given j : Job) (made wanted : ProfileParts) (asked : Asked) → given ≡ j → made ≡ wanted → (EndsSo (read wanted asked) → EndsSo (owed_for j))
-      → EndsSo (read made asked) → EndsSo (owed_for given)
-  owed_so given j made wanted asked same profile so ends =
-      subst (λ k. EndsSo (owed_for k)) (sym same) (so (subst (λ (p : ProfileParts). EndsSo (read p asked)) profile ends))
+  ends_owed : (o : Owed) (made : ProfileParts) (q : Question) → ReadsIn o made → AsksFor o q → EndsSo (read made (asked_of q)) → EndsSo o
+  ends_owed (read profile asked) made q reads asks ends =
+      asks left rest held now read_before read_after written_before written_after status (subst (λ (p : ProfileParts). EndsSo (read p (asked_of q))) reads ends)
+  ends_owed (alone answer tells) made q reads asks ends = absurd reads
 
--- a drawing whose layers are those that the option says
-drawn_so : (sections : Bool) (layers made : LayerSet) (decimals : ℕ) (two : Bool) (profile : ProfileParts) → profile ≡ drawing_profile made decimals two
-    → made ≡ layers_or sections layers → profile ≡ drawing_profile (layers_or sections layers) decimals two
-drawn_so sections layers made decimals two profile is same = is ∙ ap (λ (l : LayerSet). drawing_profile l decimals two) same
+-- so many bytes are read as it is owed
+within_owed : (left rest : Option (List ℕ)) (o : Owed) (made : ProfileParts) → ReadsIn o made → ReadsWithin left rest (made.most + 1) → ReadsWithin left rest (most_read o)
+within_owed left rest (read profile asked) made reads within = subst (λ (p : ProfileParts). ReadsWithin left rest (p.most + 1)) reads within
+within_owed left rest (alone answer tells) made reads within = absurd reads
 
-pub returns-in-Solve-clause-ends : goal.returns-in-Solve-clause-ends
-returns-in-Solve-clause-ends g c =
-    let said = c.in-Solve in
-    owed_so (g.S.Source.left c.args.source.now) (g.S.Source.left c.answer_source.new.source) (g.K.Sink.held c.args.sink.now) (g.K.Sink.held c.answer_source.new.sink)
-    (Rose (g.S.Source.faults c.args.source.now) (g.S.Source.faults c.answer_source.new.source)) (Rose (g.K.Sink.faults c.args.sink.now) (g.K.Sink.faults c.answer_source.new.sink))
-    c.answer_source.result _ (job.Solve said.workers said.limits said.pages said.decimals said.two_views said.sections) c.drawing-profile.result
-    (drawing_profile (layers_or said.sections Six) said.decimals said.two_views) (searched (search_for_all said.pages said.limits)) said.is
-    (drawn_so said.sections Six c.layers_or-layers.result said.decimals said.two_views _ c.drawing-profile.ensures c.layers_or-layers.ensures) (λ ends. ends) c.answer_source.ensures.ends
+pub returns-in_default-clause-ends : goal.returns-in_default-clause-ends
+returns-in_default-clause-ends g c =
+    ends_owed (g.S.Source.left c.args.source.now) (g.S.Source.left c.answer_source.new.source) (g.K.Sink.held c.args.sink.now) (g.K.Sink.held c.answer_source.new.sink)
+    (g.S.Source.faults c.args.source.now) (g.S.Source.faults c.answer_source.new.source) (g.K.Sink.faults c.args.sink.now) (g.K.Sink.faults c.answer_source.new.sink)
+    c.answer_source.result (owed_for c.args.job) c.profile_of-profile.result c.question_of-question.result c.profile_of-profile.ensures c.question_of-question.ensures c.answer_source.ensures.ends
 
-pub returns-in-Redraw-clause-ends : goal.returns-in-Redraw-clause-ends
-returns-in-Redraw-clause-ends g c =
-    let said = c.in-Redraw in
-    owed_so (g.S.Source.left c.args.source.now) (g.S.Source.left c.answer_source-in-Redraw.new.source) (g.K.Sink.held c.args.sink.now) (g.K.Sink.held c.answer_source-in-Redraw.new.sink)
-    (Rose (g.S.Source.faults c.args.source.now) (g.S.Source.faults c.answer_source-in-Redraw.new.source))
-    (Rose (g.K.Sink.faults c.args.sink.now) (g.K.Sink.faults c.answer_source-in-Redraw.new.sink))
-    c.answer_source-in-Redraw.result _ (job.Redraw said.which said.workers said.limits said.decimals said.two_views said.sections) c.drawing-profile-in-Redraw.result
-    (drawing_profile (layers_or said.sections Six) said.decimals said.two_views) (searched (search_for_one IsFileOf said.which said.limits)) said.is
-    (drawn_so said.sections Six c.layers_or-layers-in-Redraw.result said.decimals said.two_views _ c.drawing-profile-in-Redraw.ensures c.layers_or-layers-in-Redraw.ensures)
-    (λ ends. ends) c.answer_source-in-Redraw.ensures.ends
-
--- the form is that of triangles
-pub returns-in-Stl-clause-ends : goal.returns-in-Stl-clause-ends
-returns-in-Stl-clause-ends g c =
-    let said = c.in-Stl in
-    owed_so (g.S.Source.left c.args.source.now) (g.S.Source.left c.answer_source-in-Stl.new.source) (g.K.Sink.held c.args.sink.now) (g.K.Sink.held c.answer_source-in-Stl.new.sink)
-    (Rose (g.S.Source.faults c.args.source.now) (g.S.Source.faults c.answer_source-in-Stl.new.source))
-    (Rose (g.K.Sink.faults c.args.sink.now) (g.K.Sink.faults c.answer_source-in-Stl.new.sink))
-    c.answer_source-in-Stl.result _ (job.Stl said.which said.workers said.limits said.two_views said.sections) c.drawing-profile-in-Stl.result
-    (drawing_profile (layers_or said.sections Main) 0 said.two_views) (searched (search_for_one (λ _. IsSolidStl) said.which said.limits)) said.is
-    (drawn_so said.sections Main c.layers_or-layers-in-Stl.result 0 said.two_views _ c.drawing-profile-in-Stl.ensures c.layers_or-layers-in-Stl.ensures)
-    (λ ends. ends) c.answer_source-in-Stl.ensures.ends
-
-pub returns-in-Check-clause-ends : goal.returns-in-Check-clause-ends
-returns-in-Check-clause-ends g c =
-    let said = c.in-Check in
-    owed_so (g.S.Source.left c.args.source.now) (g.S.Source.left c.answer_source-in-Check.new.source) (g.K.Sink.held c.args.sink.now) (g.K.Sink.held c.answer_source-in-Check.new.sink)
-    (Rose (g.S.Source.faults c.args.source.now) (g.S.Source.faults c.answer_source-in-Check.new.source))
-    (Rose (g.K.Sink.faults c.args.sink.now) (g.K.Sink.faults c.answer_source-in-Check.new.sink))
-    c.answer_source-in-Check.result _ (job.Check said.two_views said.sections) c.with_log-profile.result
-    (log_profile (layers_or said.sections Main) said.two_views) (judged log_judgement) said.is
-    (c.with_log-profile.ensures ∙ ap (λ (l : LayerSet). log_profile l said.two_views) c.layers_or-layers-in-Check.ensures) (λ ends. ends) c.answer_source-in-Check.ensures.ends
+pub returns-in_default-clause-within : goal.returns-in_default-clause-within
+returns-in_default-clause-within g c =
+    within_owed (g.S.Source.left c.args.source.now) (g.S.Source.left c.answer_source.new.source) (owed_for c.args.job) c.profile_of-profile.result c.profile_of-profile.ensures c.answer_source.ensures.within

@@ -27,8 +27,8 @@ write_log-requires g c =
     let whole : all.ended.kind ≡ Whole = sym fit.kind ∙ sym (ap (λ (e : SearchEnd). e.kind) (c.behind-searched.view_is ∙ c.ended.ensures.same)) ∙ c.in-Whole.is in
     let (few_nodes, few_solids, counted, is_whole) = subst (λ k. EndsAs (is_live p) p.blocks.count limits k all.ended.opened all.ended.solids) whole search.1 in
     let same : c.problem-in-Whole.result.now ≡ p = c.problem-in-Whole.ensures ∙ fit.problem ∙ search.0 in
-    let blocks = subst (λ (q : ProblemParts). IsBlocksOf q.grid q.blocks) (c.problem.ensures ∙ fit.problem ∙ search.0) c.known.ensures.blocks in
-    subst HasFewMatching (sym same) (few_matching p blocks all.ended.solids is_whole c.ended-few.ensures.few)
+    let blocks = subst (λ (q : ProblemParts). IsBlocksOf q.grid q.blocks) (c.problem.ensures ∙ fit.problem ∙ search.0) c.known-in-Whole.ensures.blocks in
+    subst HasFewMatching (sym same) (few_matching p blocks all.ended.solids is_whole c.known.ensures)
 
 pub returns-in_err-write_log-in-Whole : goal.returns-in_err-write_log-in-Whole
 returns-in_err-write_log-in-Whole g c t by =

@@ -45,7 +45,7 @@ returns-in-Ok-found-clause-ends g c =
     let paged : HasAllPaged p (Some []) (Some pages.calls) all.ended.solids = subst (λ (q : ProblemParts). HasAllPaged q (Some []) (Some pages.calls) all.ended.solids) c.in-Ok.ensures.ok
     (subst (λ (before : PagesState). HasAllPaged (arc_value c.in-Ok.problem) (Some before.calls) (Some pages.calls) all.ended.solids) c.begin-pages.ensures c.in-Ok-found.ensures.paged) in
     let some = all_paged p limits (Some []) (Some pages.calls) all.ended.kind all.ended.opened all.ended.solids search.1 paged in
-    let ends = failed_ends sought limits c.known.ensures.blocks c.known.ensures.grid c.asks-asks.ensures.runs g.B.Begun.fits c.requires.fits g.B.Begun.held pages.held refused pages.calls
+    let ends = failed_ends sought limits c.known.ensures.blocks c.known.ensures.grid c.known-2.ensures g.B.Begun.fits c.requires.fits g.B.Begun.held pages.held refused pages.calls
     number total (Rose first last) kept some run_fault.Memory (λ is. cc) in
     subst (λ (now : Option (List ℕ)). EndsWriting (TellsSearch limits sought (TellsPages true)) (TellsSearch limits sought (BeginsPages true)) g.B.Begun.held now
     (Rose first last) (Err (run_failure run_fault.Memory))) (sym c.into_sink-sink.ensures.held) ends
@@ -57,7 +57,7 @@ returns-clause-ends g c =
     let first = g.K.Sink.faults c.args.sink in let last = g.K.Sink.faults c.into_sink-sink.result in
     let paged : HasPaged p limits.solids (Some []) (Some pages.calls) = subst (λ (q : ProblemParts). HasPaged q limits.solids (Some []) (Some pages.calls)) c.in-Ok.ensures.ok
     (subst (λ (before : PagesState). HasPaged (arc_value c.in-Ok.problem) limits.solids (Some before.calls) (Some pages.calls)) c.begin-pages.ensures c.in-Err.ensures.paged) in
-    let ends = failed_ends sought limits c.known.ensures.blocks c.known.ensures.grid c.asks-asks.ensures.runs g.B.Begun.fits c.requires.fits g.B.Begun.held pages.held refused pages.calls
+    let ends = failed_ends sought limits c.known.ensures.blocks c.known.ensures.grid c.known-2.ensures g.B.Begun.fits c.requires.fits g.B.Begun.held pages.held refused pages.calls
     number total (Rose first last) kept paged c.in-Err.fault
     (λ is. subst₂ (λ (a b : ℕ). Rose a b) (ap (λ (before : PagesState). before.faults) c.begin-pages.ensures) (sym c.into_sink-sink.ensures.faults)
     (c.in-Err.ensures.faults.1 (ap Err is))) in

@@ -43,7 +43,7 @@ returns c = IfOk-weaker c.shows_whole.result _ _ (λ yes told s union.
     let at : SFits w64 c.args.cut.at = search rules in
     let draws = rw (to_z-of_z w64 c.args.cut.at at, c.sight_frame.ensures) at (some_told c.in_ok-left.left _ _ c.in-Some.kept c.in-Some.is c.in_ok-left.ensures) in
     let kept = c.in-Some.kept.items in
-    let other = some_union coordinates (grid_ascends c.args.grid.now c.coordinates-xs.ensures.kept) kept in
+    let other = some_union coordinates (grid_ascends c.args.grid.now c.known.ensures.kept) kept in
     let here = told other.0 (subst (λ (cs : List Bool). IsUnionOf coordinates cs (is_full other.0)) (sym c.deref.ensures.value) other.1) in
     let same = left_shown (sight_frame x) (sights_are_frames x) coordinates c.args.cells.now c.args.cut s union (view_style c.args.shown.now) x.view
     kept draws other.0 other.1 in

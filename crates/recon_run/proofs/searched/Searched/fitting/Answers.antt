@@ -25,7 +25,7 @@ returns-then-not-asks c =
       kind = refl;
       opened = refl;
       those = each_is fits s.ended.solids (each-from fits s.ended.solids (λ choice k.
-          unasked_fit s.problem c.args.further.now (c.if-not-asks.ensures.none refl) choice));
+          unasked_fit s.problem c.args.further.now (c.if-not-asks.ensures refl) choice));
     }
 
 pub invariant_of-result : goal.invariant_of-result

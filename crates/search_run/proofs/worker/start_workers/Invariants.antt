@@ -2,7 +2,7 @@
 use Rattle.std.proofs.Common.{IfSome}
 use Rattle.std.specs.Arc.{arc_value}
 use Rattle.search_tree.specs.BlockPaths.{IsWayOf}
-use Rattle.search_run.proofs.starting.start_workers.Given as goal
+use Rattle.search_run.proofs.worker.start_workers.Given as goal
 
 abbrev pub invariant-loop-seat : goal.invariant-loop-seat
 invariant-loop-seat g l =

@@ -2,7 +2,7 @@
 use Rattle.std.specs.Arc.{arc_value}
 use Rattle.search_tree.specs.BlockPaths.{IsWayOf}
 use Rattle.search_run.specs.Worked.{WorksOn}
-use Rattle.search_run.proofs.working.go_round.Given as goal
+use Rattle.search_run.proofs.worker.go_round.Given as goal
 
 abbrev pub invariant-loop : goal.invariant-loop
 invariant-loop g l = record {

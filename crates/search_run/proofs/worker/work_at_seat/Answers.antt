@@ -3,7 +3,7 @@ use Rattle.std.proofs.Common.{sym, subst}
 use Rattle.steal_pool.specs.WorkerSeats.{state_of}
 use Rattle.search_run.specs.Worked.{HasWorked}
 use Rattle.search_run.proofs.Work.{worked_none}
-use Rattle.search_run.proofs.working.work_at_seat.Goals as goal
+use Rattle.search_run.proofs.worker.work_at_seat.Goals as goal
 
 pub returns-in_default : goal.returns-in_default
 returns-in_default g c =
