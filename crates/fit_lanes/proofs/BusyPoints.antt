@@ -63,7 +63,7 @@ module _ (sights : List (List Span)) (stride : ℕ) where
   -- beyond them nothing is filled on either side
   pub alike_beyond : (choice : List Bool) (columns : List ℕ) → AreFilled choice sights columns → (count : ℕ) (points : List ℕ) → AreBusy sights stride count points
       → count + stride ≤ length sights → (upright : Bool) → AreAlikeBeyond columns stride upright points count
-  alike_beyond choice columns filled count points busy room upright p l out =
+  alike_beyond choice columns filled count points busy enough upright p l out =
       let bare = busy.beyond p l out in
       empty (p + stride) (omega arith) bare.after ∙ sym (empty (p + stride - places_before stride upright) (omega arith) (bare.before upright))
     where

@@ -10,5 +10,5 @@ pub mod GridFacts
 pub mod SightRows
 pub mod MovedStyles
 pub mod Told
-pub mod Rooms
+pub mod Buffers
 pub mod AllTold

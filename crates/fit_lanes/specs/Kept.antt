@@ -16,7 +16,7 @@ pub record AreBytesFor (w h : ℕ) (points bytes : List ℕ) : Type 0 where
 
 -- how many cells the view has, the depths that it keeps, the spans behind its points, those beside which there are some, a column for
 -- each of the spans, and bytes of both kinds
-pub record IsRoomOf (p : ProblemParts) (x : Layer) (kept : Option ℕ) (w h : ℕ) (sights : List (List Span)) (points columns level upright : List ℕ) : Type 0 where
+pub record AreBuffersOf (p : ProblemParts) (x : Layer) (kept : Option ℕ) (w h : ℕ) (sights : List (List Span)) (points columns level upright : List ℕ) : Type 0 where
   pub grid : IsGrid p.grid
   pub keeps : LayerKeeps (coordinates_of p.grid) x kept
   pub wide : w ≡ width x (grid_sizes p.grid)

@@ -36,7 +36,7 @@ fn is_bare(sights: &RowSpans, stride: usize, after: usize) -> bool
 /// The points of which that isn't so, in rows of so many.
 pub fn busy_points(alloc: Global, sights: &RowSpans, stride: usize) -> Result<Vec<usize>, Memory>
     requires stride { 1 ≤ stride }
-    requires room { stride ≤ length sights.now }
+    requires enough { stride ≤ length sights.now }
     ensures { IfOk result (λ points. AreBusy sights.now stride (length sights.now - stride)
         points.items) }
 {

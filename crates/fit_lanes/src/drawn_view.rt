@@ -33,7 +33,7 @@ pub struct DrawnView<'a> {
 
 impl<'a> Model for DrawnView<'a> {
     ghost use Rattle.fit_lanes.specs.Drawn.{DrawnParts};
-    ghost use Rattle.fit_lanes.specs.Kept.{IsRoomOf};
+    ghost use Rattle.fit_lanes.specs.Kept.{AreBuffersOf};
 
     ghost Value = { DrawnParts };
 
@@ -44,7 +44,7 @@ impl<'a> Model for DrawnView<'a> {
       upright = s.upright.items;
     } };
 
-    ghost invariant = { λ s. IsRoomOf s.problem.now s.layer s.kept s.width s.height s.sights
+    ghost invariant = { λ s. AreBuffersOf s.problem.now s.layer s.kept s.width s.height s.sights
         s.busy.items s.columns.items s.level.items s.upright.items };
 }
 

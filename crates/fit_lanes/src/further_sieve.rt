@@ -11,7 +11,7 @@ use std::alloc::Global;
 use std::marker::Model;
 
 /// Tells which choices of a problem's blocks fit further views and sections: those whose solids do.
-/// Its room is made once; so no choice that matches asks for memory where no view is cut. Contracts
+/// Its buffers are made once; so no choice that matches asks for memory where no view is cut. Contracts
 /// see the problem and what is asked for.
 #[derive(Debug, Drop)]
 pub struct FurtherSieve<'a> {

@@ -13,7 +13,7 @@ use solid_model::{Axis, Choice, Memory, Problem, ViewLines};
 use std::alloc::Global;
 use std::marker::Model;
 
-/// How many layers are tested fast: each takes room that grows with its view's grid. The others are
+/// How many layers are tested fast: each takes memory that grows with its view's grid. The others are
 /// tested without.
 const FAST_TESTS: usize = 64;
 

@@ -67,7 +67,7 @@ pub fn point_bytes(
 /// beyond them the columns are the same, and nothing was drawn.
 pub fn draw(columns: &[u64], stride: usize, upright: bool, points: &[usize], drawn: &mut [u8])
     requires stride { 1 ≤ stride }
-    requires room { length columns.now ≡ length drawn.old + stride }
+    requires enough { length columns.now ≡ length drawn.old + stride }
     requires inside { Each (λ p. p < length drawn.old) points.now }
     requires alike { AreAlikeBeyond columns.now stride upright points.now (length drawn.old) }
     requires blank { AreBlankBeyond points.now drawn.old }

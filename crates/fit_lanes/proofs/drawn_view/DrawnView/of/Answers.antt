@@ -1,4 +1,4 @@
--- The view keeps what its room is for.
+-- The view keeps what its buffers are for.
 use Rattle.std.proofs.Common.{◌≡◌, ◌+◌, ◌*◌, ◌≤◌, ℕ, List, length, ap, sym, subst, ◌∙◌, arith}
 use Rattle.cell_rows.specs.declared.span.Span.{Span}
 use Rattle.solid_model.specs.declared.cell.Axis.{Axis}

@@ -9,7 +9,7 @@ use Rattle.dxf_entities.specs.declared.layer.Layer.{Layer}
 use Rattle.solid_model.specs.Blocks.{ProblemParts}
 use Rattle.fit_lanes.specs.Busy.{AreAlikeBeyond}
 use Rattle.fit_lanes.specs.Cuts.{AreLeftColumns, IsLeftBit}
-use Rattle.fit_lanes.specs.Kept.{AreBytesFor, IsRoomOf}
+use Rattle.fit_lanes.specs.Kept.{AreBytesFor, AreBuffersOf}
 use Rattle.fit_lanes.specs.Points.{places_before}
 use Rattle.fit_lanes.proofs.BusyPoints.{alike_beyond}
 use Rattle.fit_lanes.proofs.Told.{rows_more}
@@ -18,8 +18,8 @@ use Rattle.fit_lanes.proofs.Told.{rows_more}
 pub left_alike : (kept : Option ℕ) (filled columns : List ℕ) → MatchOption kept (columns ≡ filled) (λ depths. AreLeftColumns depths filled columns)
     → (stride : ℕ) (upright : Bool) (points : List ℕ) (count : ℕ) → count + stride ≤ length filled → AreAlikeBeyond filled stride upright points count
     → AreAlikeBeyond columns stride upright points count
-left_alike None filled columns same stride upright points count room alike p l out = subst (λ cs. AreAlikeBeyond cs stride upright points count) (sym same) alike p l out
-left_alike (Some depths) filled columns left stride upright points count room alike p l out = λ t k. by k t
+left_alike None filled columns same stride upright points count enough alike p l out = subst (λ cs. AreAlikeBeyond cs stride upright points count) (sym same) alike p l out
+left_alike (Some depths) filled columns left stride upright points count enough alike p l out = λ t k. by k t
   where
     after : ℕ
     after = p + stride
@@ -28,7 +28,7 @@ left_alike (Some depths) filled columns left stride upright points count room al
     before = p + stride - places_before stride upright
 
     there : after < length filled
-    there = omega (arith, l, room)
+    there = omega (arith, l, enough)
 
     there_too : before < length filled
     there_too = let less : before ≤ after = omega arith in omega (arith, less, there)
@@ -47,13 +47,13 @@ left_alike (Some depths) filled columns left stride upright points count room al
     by (negsuc k) = refl
 
 module _ (p : ProblemParts) (x : Layer) (kept : Option ℕ) (w h : ℕ) (sights : List (List Span)) (points columns level upright : List ℕ)
-    (room : IsRoomOf p x kept w h sights points columns level upright) where
+    (buffers : AreBuffersOf p x kept w h sights points columns level upright) where
   sights_count : length sights ≡ (h + 1) * (w + 1) + (w + 1)
-  sights_count = room.sights_of.count ∙ (λ t. (sym room.high t + 2) * (sym room.wide t + 1)) ∙ rows_more h w
+  sights_count = buffers.sights_of.count ∙ (λ t. (sym buffers.high t + 2) * (sym buffers.wide t + 1)) ∙ rows_more h w
 
   -- there is a column for each point, and a row of columns before them
   pub columns_count : length columns ≡ (h + 1) * (w + 1) + (w + 1)
-  columns_count = room.columns_for ∙ sights_count
+  columns_count = buffers.columns_for ∙ sights_count
 
   -- beyond the points the columns of a choice are alike
   pub choice_alike : (choice : List Bool) (filled drawn : List ℕ) → AreFilled choice sights filled → length filled ≡ length columns
@@ -64,21 +64,21 @@ module _ (p : ProblemParts) (x : Layer) (kept : Option ℕ) (w h : ℕ) (sights 
       (subst (λ ps. AreAlikeBeyond drawn (w + 1) along ps n) (sym same_points)
       (subst (AreAlikeBeyond drawn (w + 1) along points) (sym count)
       (left_alike kept filled drawn left (w + 1) along points ((h + 1) * (w + 1)) (omega (arith, long, columns_count))
-      (alike_beyond sights (w + 1) choice filled fill ((h + 1) * (w + 1)) points room.busy (omega (arith, sights_count)) along))))
+      (alike_beyond sights (w + 1) choice filled fill ((h + 1) * (w + 1)) points buffers.busy (omega (arith, sights_count)) along))))
 
-  -- the room is for the same after another choice was drawn
-  pub room_kept : (more_columns more_level more_upright : List ℕ) → length more_columns ≡ length columns → AreBytesFor w h points more_level → AreBytesFor w h points more_upright
-      → IsRoomOf p x kept w h sights points more_columns more_level more_upright
-  room_kept more_columns more_level more_upright as_many level_too upright_too = record {
-    grid = room.grid;
-    keeps = room.keeps;
-    wide = room.wide;
-    high = room.high;
-    few_wide = room.few_wide;
-    few_high = room.few_high;
-    sights_of = room.sights_of;
-    busy = room.busy;
-    columns_for = as_many ∙ room.columns_for;
+  -- the buffers are for the same after another choice was drawn
+  pub buffers_kept : (more_columns more_level more_upright : List ℕ) → length more_columns ≡ length columns → AreBytesFor w h points more_level → AreBytesFor w h points more_upright
+      → AreBuffersOf p x kept w h sights points more_columns more_level more_upright
+  buffers_kept more_columns more_level more_upright as_many level_too upright_too = record {
+    grid = buffers.grid;
+    keeps = buffers.keeps;
+    wide = buffers.wide;
+    high = buffers.high;
+    few_wide = buffers.few_wide;
+    few_high = buffers.few_high;
+    sights_of = buffers.sights_of;
+    busy = buffers.busy;
+    columns_for = as_many ∙ buffers.columns_for;
     level_for = level_too;
     upright_for = upright_too;
   }
