@@ -11,8 +11,8 @@ use std::alloc::Global;
 use std::marker::Model;
 
 /// Tells which choices of a problem's blocks fit further views and sections: those whose solids do.
-/// Its buffers are made once; so no choice that matches asks for memory where no view is cut. Contracts
-/// see the problem and what is asked for.
+/// Its buffers are made once; so no choice that matches asks for memory where no view is cut.
+/// Contracts see the problem and what is asked for.
 #[derive(Debug, Drop)]
 pub struct FurtherSieve<'a> {
     problem: &'a Problem,

@@ -13,8 +13,8 @@ use solid_model::{Axis, Choice, Memory, Problem, ViewLines};
 use std::alloc::Global;
 use std::marker::Model;
 
-/// How many layers are tested fast: each takes memory that grows with its view's grid. The others are
-/// tested without.
+/// How many layers are tested fast: each takes memory that grows with its view's grid. The others
+/// are tested without.
 const FAST_TESTS: usize = 64;
 
 /// A layer that is asked for, with a fast test of it if there is one. Contracts see the problem and

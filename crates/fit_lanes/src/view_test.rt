@@ -10,8 +10,8 @@ use solid_model::{Choice, Memory, Problem, ViewLines};
 use std::alloc::Global;
 use std::marker::Model;
 
-/// A layer that is asked for, with the buffers in which choices are drawn, and what is wanted of them.
-/// Contracts see the problem and the layer with its runs.
+/// A layer that is asked for, with the buffers in which choices are drawn, and what is wanted of
+/// them. Contracts see the problem and the layer with its runs.
 #[derive(Debug, Drop)]
 pub struct ViewTest<'a> {
     view: DrawnView<'a>,
