@@ -9,7 +9,7 @@ from collections.abc import Iterator, Mapping, Sequence
 from fractions import Fraction
 from typing import NamedTuple
 
-from . import chamfers, cones, given, holes, noted, rounds, sheet, tangent
+from . import chamfers, cones, given, holes, noted, rounds, sheet, tangent, unconfirmed
 from .cutting import Mark
 from .drawing import VIEWS, Place
 from .given import Cone, Given, Stretch
@@ -187,7 +187,8 @@ def read(path: str | None, read_sheet: Sheet, marks: Sequence[Mark], arguments: 
     if any(edge.source.kind in ("SPLINE", "ELLIPSE") for edge in edges):
         edges = evened(edges, arcs)
     kept, left = arcs_beside(edges, arcs, sheet.curves_of(read_sheet), tolerance)
-    bare = [*edges, *rounds.bare_squares(rounds.rounds_of(kept, tolerance))]
+    # Arcs end less exactly than lines in files with few decimals.
+    bare = evened([*edges, *rounds.bare_squares(rounds.rounds_of(kept, tolerance))], kept)
     placed = sheet.found_views(path, read_sheet, bare, marks, arguments, noted.tell_none)
     if missing := [view for view in VIEWS if view not in placed.views]:
         raise Refused(f"{missing[0]} isn't drawn, and a sheet with circles or arcs is read where all three main views are there: draw it too")
@@ -397,7 +398,7 @@ def drawn(found: Found, reading: Reading, corners: Sequence[chamfers.Squared], n
         views = found.views(squares.rounds)
         smooth = [(it, False) for it in tangent.candidates(views) if it.owners & set(reading.inner)]
         lines, left = tangent.without(lines, smooth, found.tolerance), [*left, *smooth]
-    told = given_by(found, placed, lines, squares, corners, tuple(left), float(measure.times))._replace(reading=number)
+    told = given_by(found, placed, lines, squares, corners, tuple(left), float(measure.times))._replace(reading=number, suspects=suspects_of(found))
     tell_squares(told, tell)
     tell_cones(found, tell)
     for stretch in told.smooth:
@@ -410,6 +411,13 @@ def drawn(found: Found, reading: Reading, corners: Sequence[chamfers.Squared], n
         more = len(squares.doubts) - MOST_TOLD
         tell(noted.warning(f"{many(more, 'place')} more of this kind", more))
     return sheet.drawn_views(found.path, found.sheet, placed, times, measure, found.arguments, tell, given.comments(told))
+
+
+def suspects_of(found: Found) -> tuple[str, ...]:
+    """The curves that other views don't confirm, but for those of what is taken off."""
+    taken = [it.one for it in found.holes]
+    its = [it for it in rounds.rounds_of(found.arcs, found.tolerance) if it not in taken]
+    return tuple(it.words for it in unconfirmed.suspects(found.views(its)))
 
 
 def tell_squares(told: Given, tell: Tell) -> None:
