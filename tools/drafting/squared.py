@@ -414,10 +414,12 @@ def drawn(found: Found, reading: Reading, corners: Sequence[chamfers.Squared], n
 
 
 def suspects_of(found: Found) -> tuple[str, ...]:
-    """The curves that other views don't confirm, but for those of what is taken off."""
+    """The curves that other views don't confirm, but for those of what is taken off, and of cones."""
+    views = found.views(rounds.rounds_of(found.arcs, found.tolerance))
     taken = [it.one for it in found.holes]
-    its = [it for it in rounds.rounds_of(found.arcs, found.tolerance) if it not in taken]
-    return tuple(it.words for it in unconfirmed.suspects(found.views(its)))
+    its = [(view, one) for view, one in views.rounds
+           if one not in taken and not is_of_cone(view, one, found.placed, found.cones.its, found.tolerance)]
+    return tuple(it.words for it in unconfirmed.suspects(views._replace(rounds=its)))
 
 
 def tell_squares(told: Given, tell: Tell) -> None:
