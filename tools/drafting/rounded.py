@@ -154,19 +154,20 @@ def rounded(solid: Solid, given: Given, unit: int, how: How = How.STRICT) -> lis
     cuts, is_full = is_full_in(solid)
     found: list[Drawn] = []
     for one in (it for it in given.squared if it.view in VIEWS):
-        ways: list[list[Layer | None]] = [[] for _ in one.quarters]
-        places = [list(beside(cuts, one.view, quarter, unit)) for quarter in one.quarters]
+        quarters: Sequence[Quarter | Slant] = one.quarters
+        ways: list[list[Layer | None]] = [[] for _ in quarters]
+        places = [list(beside(cuts, one.view, quarter, unit)) for quarter in quarters]
         for low, high in itertools.pairwise(cuts[FRAMES[one.view].sight]):
             middle = (low + high) / 2
             at = [[((is_full(spot(one.view, it.within, middle)), is_full(spot(one.view, it.beyond, middle))), it) for it in its] for its in places]
-            row = [layer_of(its, (low, high), (one, quarter), how, unit) for quarter, its in zip(one.quarters, at)]
+            row = [layer_of(its, (low, high), (one, quarter), how, unit) for quarter, its in zip(quarters, at)]
             if one.is_circle and how in (How.TOUCHING, How.BETWEEN):
                 row = beside_walls(row, at, (low, high), how)
             for layers, layer in zip(ways, row):
                 layers.append(layer)
         if not all(map(any, ways)):
             return None
-        found += [Drawn(one, quarter, tuple(it for it in layers if it)) for quarter, layers in zip(one.quarters, ways)]
+        found += [Drawn(one, quarter, tuple(it for it in layers if it)) for quarter, layers in zip(quarters, ways)]
     return found
 
 

@@ -2,6 +2,7 @@
 reads, with comments that say what was squared off (`given.py`).
 """
 import argparse
+import bisect
 import itertools
 import math
 from collections import Counter, defaultdict
@@ -145,6 +146,18 @@ def evening(edges: Sequence[Edge], arcs: Sequence[Arc], at: int) -> dict[float, 
     return table
 
 
+def upon(squares: Sequence[Edge], edges: Sequence[Edge]) -> list[Edge]:
+    """The sides of squares with coordinates that differ by noise alone from those of edges made the same: arcs end less exactly than lines."""
+    values = [sorted({end[at] for edge in edges for end in (edge.start, edge.end)}) for at in (0, 1)]
+
+    def near(place: Place) -> Place:
+        x, y = (min(its[max(0, bisect.bisect(its, at) - 1):][:2], key=lambda it: abs(it - at)) if its else at for at, its in zip(place, values))
+        return x if abs(x - place[0]) <= noise else place[0], y if abs(y - place[1]) <= noise else place[1]
+
+    noise = min([ENDS, *((its[-1] - its[0]) * SHARE for its in values if its)])
+    return [edge._replace(start=near(edge.start), end=near(edge.end)) for edge in squares]
+
+
 # ---- which arcs are of the views
 
 def arc_box(arc: Arc) -> Box:
@@ -187,8 +200,7 @@ def read(path: str | None, read_sheet: Sheet, marks: Sequence[Mark], arguments: 
     if any(edge.source.kind in ("SPLINE", "ELLIPSE") for edge in edges):
         edges = evened(edges, arcs)
     kept, left = arcs_beside(edges, arcs, sheet.curves_of(read_sheet), tolerance)
-    # Arcs end less exactly than lines in files with few decimals.
-    bare = evened([*edges, *rounds.bare_squares(rounds.rounds_of(kept, tolerance))], kept)
+    bare = [*edges, *upon(rounds.bare_squares(rounds.rounds_of(kept, tolerance)), edges)]
     placed = sheet.found_views(path, read_sheet, bare, marks, arguments, noted.tell_none)
     if missing := [view for view in VIEWS if view not in placed.views]:
         raise Refused(f"{missing[0]} isn't drawn, and a sheet with circles or arcs is read where all three main views are there: draw it too")
