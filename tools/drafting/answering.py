@@ -17,6 +17,9 @@ from .messages import Progress, many
 SECONDS = 300.0
 # What a sheet leaves open of its lines.
 OPEN = "Which of its lines are tangent edges, or which corners oblique ones cut off or fill,"
+# What is told where no solid is kept: of curves that don't stand free as far as the sheet shows it, so many, or of none.
+CAUSE, MOST_TOLD = "The likely cause is a curve that doesn't stand free:", 4
+UNKNOWN = "The cause isn't a curve that the other views don't confirm: a line lacks or is too much, or is another one's (draft why)."
 # What runs the program over a drawing of so many decimals.
 Asker = Callable[[bytes, int], program.Run]
 
@@ -36,13 +39,14 @@ class Answered(NamedTuple):
 
 class Readings(NamedTuple):
     """What came of the readings of a sheet that were tried: those of which solids are kept, or else the first one; how many were tried, of how
-    many; and, where no more were tried for want of time, within how many seconds."""
+    many; where no more were tried for want of time, within how many seconds; and where none is kept the first one that has solids."""
 
     kept: list[Answered]
     first: Answered | None
     tried: int
     among: int
     seconds: float | None = None
+    nearest: Answered | None = None
 
     @property
     def likeliest(self) -> Answered | None:
@@ -71,7 +75,30 @@ class Readings(NamedTuple):
         is_plain = not self.kept or self.kept[0].given.reading[0] <= self.among
         return "" if self.tried == self.among and is_plain else ", as its lines are read here"
 
+    @property
+    def outcome(self) -> list[str]:
+        """What came of the solids of the reading that is told: of one that has some, where none is kept."""
+        one = self.kept[0] if self.kept else self.nearest or self.first
+        return one.outcome.told() if one else []
+
+    @property
+    def cause(self) -> list[str]:
+        """Why no solid is kept, as far as the sheet tells it."""
+        if self.kept or self.first is None:
+            return []
+        given = self.first.given
+        its = [*given.suspects, *given.doubts]
+        if not its:
+            return [UNKNOWN]
+        more = f"; and {len(its) - MOST_TOLD} more" if len(its) > MOST_TOLD else ""
+        return [f"{CAUSE} {'; '.join(its[:MOST_TOLD])}{more}."]
+
     def told(self) -> list[str]:
+        """All that is told beside the solids that are kept."""
+        return [*self.outcome, *self.cause, *self.choice]
+
+    @property
+    def choice(self) -> list[str]:
         """How many readings were tried, and which one is told."""
         number = self.kept[0].given.reading[0] if self.kept else 0
         if self.among == 1 and number < 2:
@@ -150,7 +177,8 @@ def with_one(result: Readings, found: Answered) -> Readings:
     others = [one for it in result.kept for one in it.outcome.kept]
     new = [one for one in found.outcome.kept if not any(are_alike(one, other) for other in others)]
     some = [found._replace(outcome=found.outcome._replace(kept=new))] if new else []
-    return Readings([*result.kept, *some], result.first or found, min(number, count), count)
+    nearest = result.nearest or (found if found.outcome.listed else None)
+    return Readings([*result.kept, *some], result.first or found, min(number, count), count, None, nearest)
 
 
 def lines_in(drawn: sheet.Drawn) -> str:

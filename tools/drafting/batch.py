@@ -104,9 +104,8 @@ def message_of(asked: asking.Asked, record: records.Record, warnings: list[str])
     if record["fault"]:
         return "; ".join([record["fault"]["message"], *warnings])
     if asked.rounds:
-        first = next(iter(asked.rounds.kept), asked.rounds.first)
         told = [f"volume {asked.rounded_volume(asked.kept[0])}"] if len(asked.kept) == 1 else []
-        told += [*(first.outcome.told()[:1] if first else []), *asked.rounds.told()[:1]]
+        told += [*asked.rounds.outcome[:1], *asked.rounds.cause, *asked.rounds.choice[:1]]
         return "; ".join([*told, *warnings])
     head = asked.run.text.partition("\n")[0]
     said = [f"volume {asking.measure(Fraction(it['volume']), asked.cubic())}" for it in record["solids"] if record["listed"] == 1]

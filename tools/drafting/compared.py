@@ -171,13 +171,15 @@ def differences(shape: "Part.Shape", given: Given) -> Iterator[str]:
         slants = slants_of([*given.lines[view], *lines])
         rows = rows_of(lines, arcs, slants)
         told = joined_near(rows_of(given.lines[view], given.arcs.get(view, []), slants), rows)
+        left = joined_near(rows_of([it.edge() for it in given.smooth if it.view == view], []), rows)
         if made.others:
             yield f"{view} has {made.others} curves that are neither lines nor arcs"
         for key in sorted(told.keys() | rows.keys()):
             both = told.get(key, []), rows.get(key, [])
             for low, high in stretches(both):
                 one, other = (style_at(row, (low + high) / 2) for row in both)
-                if one != other:
+                # Where a round touches a wall the line that was left out as smooth is an edge.
+                if one != other and style_at([*both[0], *left.get(key, [])], (low + high) / 2) != other:
                     yield f"{view}, {place_told(key, low, high)}: the sheet has {one}, the solid {other}"
 
 
@@ -249,10 +251,11 @@ def smooth_doubts(shape: "Part.Shape", given: Given) -> tuple[int, int]:
     other = lacking = 0
     for view in {it.view for it in given.smooth}:
         least = least_of(given, view)
-        rows = rows_of(moved(drawn(shape, view, SMOOTH).lines, [], least)[0], [])
+        smooth, sharp = (moved(drawn(shape, view, groups).lines, [], least)[0] for groups in (SMOOTH, SHARP))
+        rows, every = rows_of(smooth, []), rows_of([*smooth, *sharp], [])
         left = [it for it in given.smooth if it.view == view]
         told = joined_near(rows_of([*given.lines.get(view, []), *(it.edge() for it in left)], []), rows)
-        other += sum(differs(it, rows) for it in left if not any(is_seam(it, cone, NEAR) for cone in given.cones))
+        other += sum(differs(it, every) for it in left if not any(is_seam(it, cone, NEAR) for cone in given.cones))
         for key, row in rows.items():
             lacking += sum(style_at(row, (low + high) / 2) == "solid" and style_at(told.get(key, []), (low + high) / 2) != "solid"
                            for low, high in stretches((row, told.get(key, []))) if not is_of_cone(view, key, low, high, given))

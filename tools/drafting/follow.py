@@ -91,7 +91,7 @@ def rounds_events(asked: asking.Asked) -> Events:
     if not rounds:
         return
     shapes = [one for one in first.outcome.kept if one.shape is not None] if first else []
-    yield from map(said, [*(first.outcome.told() if first else []), *rounds.told(), *map(noted.warning, first.given.doubts if first else ())])
+    yield from map(said, [*rounds.told(), *map(noted.warning, first.given.doubts if first else ())])
     if not first or not shapes:
         yield said(SQUARED)
         return

@@ -10,6 +10,7 @@ lines and arcs of each view, with which they are compared. All are from a view's
     draft chamfer FRONT 8 12 20 30          the sharp corner of an oblique edge, and the one across from that
     draft hole TOP 40 25 6 0 8              a hole or boss that was taken off: a centre, a radius, from a depth on to another
     draft doubt WORDS
+    draft suspect WORDS                     a curve that the other views don't confirm (`unconfirmed.py`), the most suspicious first
 """
 import re
 from collections.abc import Callable, Iterator
@@ -26,7 +27,7 @@ VIEW = "|".join((*VIEWS, *FURTHER))
 FORMS = {
     "round": rf"({VIEW}) # # # ([1-4]{{1,4}})( inner)?( cut)?", "arc": rf"({VIEW}) (solid|dashed) # # # # #",
     "line": rf"({VIEW}) (solid|dashed) # # # #", "smooth": rf"({VIEW}) (upright|level) (solid|dashed) # # #",
-    "cone": rf"({VIEW}) # # # # # #( sure)?", "reading": r"([1-9]\d{0,5}) of ([1-9]\d{0,5})", "chamfer": rf"({VIEW}) # # # #", "hole": rf"({VIEW}) # # # # #", "doubt": "(.*)",
+    "cone": rf"({VIEW}) # # # # # #( sure)?", "reading": r"([1-9]\d{0,5}) of ([1-9]\d{0,5})", "chamfer": rf"({VIEW}) # # # #", "hole": rf"({VIEW}) # # # # #", "doubt": "(.*)", "suspect": "(.*)",
 }
 
 
@@ -119,7 +120,7 @@ class Hole(NamedTuple):
 class Given(NamedTuple):
     """What a drawing's comments say: the rounds, the lines and arcs by their views, what was left out as smooth, where squaring off may be
     wrong, the cones, and which reading of the sheet it is, of how many: one of a greater number changes more than to leave lines out; and
-    the chamfers, and the holes and bosses that were taken off."""
+    the chamfers, the holes and bosses that were taken off, and the curves that other views don't confirm."""
 
     rounds: list[Squared]
     lines: dict[str, list[Edge]]
@@ -130,6 +131,7 @@ class Given(NamedTuple):
     reading: tuple[int, int] = (1, 1)
     chamfers: tuple[Chamfer, ...] = ()
     holes: tuple[Hole, ...] = ()
+    suspects: tuple[str, ...] = ()
 
     @property
     def squared(self) -> list[Squared | Chamfer]:
@@ -212,6 +214,7 @@ def rows_of(given: Given) -> Iterator[str]:
     yield from (f"chamfer {it.view} {plain(*it.slant.corner, *it.slant.centre)}" for it in given.chamfers)
     yield from (f"hole {it.view} {plain(*it.centre, *it[2:])}" for it in given.holes)
     yield from (f"doubt {text}" for text in given.doubts)
+    yield from (f"suspect {text}" for text in given.suspects)
 
 
 def comments(given: Given) -> str:
@@ -299,6 +302,8 @@ def given_in(lines: list[str]) -> Given | None:
             given = given._replace(chamfers=(*given.chamfers, chamfer_in(*told.groups())))
         elif word == "hole":
             given = given._replace(holes=(*given.holes, hole_in(*told.groups())))
+        elif word == "suspect":
+            given = given._replace(suspects=(*given.suspects, told[1]))
         else:
             TAKES[word](given, *told.groups())
     return given if given.squared or given.holes else None

@@ -177,6 +177,8 @@ def run(arguments: argparse.Namespace) -> int:
     else:
         asked = asking.ask(arguments.drawing, arguments, lambda note: say(f"draft judge: {note}"))
         answer, data, lines, decimals = answer_of(asked.run.text), asked.data, asked.lines, asked.decimals
+        for text in asked.rounds.cause if asked.rounds else ():
+            say(f"draft judge: no solid is kept once it is rounded back. {text}")
     if given := given_in(lines):
         say(f"draft judge: what is judged are the solids of the drawing with its {given.kinds} squared off")
     if FAULT.fullmatch(answer.head):

@@ -110,7 +110,7 @@ def rounded_back(number: int, solid: Solid, given: Given, unit: int, with_shapes
         if with_shapes is None and not by_formula:
             why = why or "cut by walls, which needs FreeCAD"
             continue
-        every = choices(solid, way, given, unit) if by_formula or not given.cones else []
+        every = choices(solid, way, given, unit)
         why = why or ("" if every else "its holes and bosses don't have the places of all cones")
         for chosen in every:
             plain, by_pi = volume_of(solid, way, unit)

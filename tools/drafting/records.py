@@ -162,7 +162,7 @@ def rounds_record(asked: Asked) -> Record | None:
         told |= {
             "squared_off": len(first.given.squared), "listed": first.outcome.listed, "not_rounded_back": first.outcome.lost,
             "look_otherwise": first.outcome.others, "not_looked_at": first.outcome.unseen, "is_compared": first.outcome.is_compared,
-            "doubts": first.given.doubts,
+            "doubts": first.given.doubts, "cause": asked.rounds.cause,
         }
     return told
 

@@ -45,10 +45,11 @@ class Drawn(NamedTuple):
 
 
 class How(enum.IntEnum):
-    """How layers are taken: where full changes to empty all along a corner; also, of what is no whole circle or is cut, where it does so but
-    for where a wall goes on across; or of all."""
+    """How layers are taken: where full changes to empty all along a corner; also where a wall lies along one side of a boss's square, or
+    along two, which it touches; or where it does so but for slots across the corner's sides; also, of what is no whole circle or is cut, but for
+    where a wall goes on across; or of all."""
 
-    STRICT, CUT, ALL = range(3)
+    STRICT, TOUCHING, BETWEEN, SLOTTED, CUT, ALL = range(6)
 
 
 def spot(view: str, place: Place, depth: float) -> tuple[float, float, float]:
@@ -107,7 +108,12 @@ def layer_of(
     styles = {pair for pair, _ in at}
     if styles in ({FULL_INSIDE}, {FULL_OUTSIDE}):
         return Layer(*ends, FULL_INSIDE in styles)
-    if how is How.STRICT or how is How.CUT and one.is_circle and not one.is_cut:
+    if how in (How.TOUCHING, How.BETWEEN) and not one.is_circle and isinstance(one, Squared) and walls_along(at) == 1:
+        return Layer(*ends, True)
+    if how is How.SLOTTED and isinstance(one, Squared):
+        is_full, beyond = next(pair for pair, it in at if not it.where)
+        return Layer(*ends, is_full) if is_full != beyond and all(pair[1] == beyond for pair, _ in at) else None
+    if how <= How.SLOTTED or how is How.CUT and one.is_circle and not one.is_cut:
         return None
     sides = {pair for pair, it in at if it.where and pair[0] != pair[1]}
     if len(sides) != 1:
@@ -115,6 +121,20 @@ def layer_of(
     is_full = FULL_INSIDE in sides
     on = [it.where for pair, it in at if it.where and pair == (is_full, is_full)]
     return Layer(*ends, is_full, strips_of(on, quarter, unit))
+
+
+def walls_along(at: list[tuple[tuple[bool, bool], Beside]]) -> int | None:
+    """Along how many sides of a full corner what is beyond is full too; nothing where it is so in part, or the corner isn't full."""
+    beyond = [{pair[1] for pair, it in at if it.where and it.where[0] == across} for across in (0, 1)]
+    return sum(True in it for it in beyond) if all(pair[0] for pair, _ in at) and all(len(it) == 1 for it in beyond) else None
+
+
+def beside_walls(row: list[Layer | None], at: list[list[tuple[tuple[bool, bool], Beside]]], ends: tuple[int, int], how: How) -> list[Layer | None]:
+    """The layers of a circle's quarters, also where it is a boss that touches walls along one side of its square, or two: by halves of sides."""
+    walls = list(map(walls_along, at))
+    if None in walls or sum(it or 0 for it in walls) > 2 * how:
+        return row
+    return [Layer(*ends, True)] * len(row)
 
 
 def is_full_in(solid: Solid) -> tuple[list[list[int]], Callable[[tuple[float, float, float]], bool]]:
@@ -134,15 +154,20 @@ def rounded(solid: Solid, given: Given, unit: int, how: How = How.STRICT) -> lis
     cuts, is_full = is_full_in(solid)
     found: list[Drawn] = []
     for one in (it for it in given.squared if it.view in VIEWS):
-        for quarter in one.quarters:
-            places, layers = list(beside(cuts, one.view, quarter, unit)), []
-            for low, high in itertools.pairwise(cuts[FRAMES[one.view].sight]):
-                middle = (low + high) / 2
-                at = [((is_full(spot(one.view, it.within, middle)), is_full(spot(one.view, it.beyond, middle))), it) for it in places]
-                layers.append(layer_of(at, (low, high), (one, quarter), how, unit))
-            if not any(layers):
-                return None
-            found.append(Drawn(one, quarter, tuple(it for it in layers if it)))
+        quarters: Sequence[Quarter | Slant] = one.quarters
+        ways: list[list[Layer | None]] = [[] for _ in quarters]
+        places = [list(beside(cuts, one.view, quarter, unit)) for quarter in quarters]
+        for low, high in itertools.pairwise(cuts[FRAMES[one.view].sight]):
+            middle = (low + high) / 2
+            at = [[((is_full(spot(one.view, it.within, middle)), is_full(spot(one.view, it.beyond, middle))), it) for it in its] for its in places]
+            row = [layer_of(its, (low, high), (one, quarter), how, unit) for quarter, its in zip(quarters, at)]
+            if one.is_circle and how in (How.TOUCHING, How.BETWEEN):
+                row = beside_walls(row, at, (low, high), how)
+            for layers, layer in zip(ways, row):
+                layers.append(layer)
+        if not all(map(any, ways)):
+            return None
+        found += [Drawn(one, quarter, tuple(it for it in layers if it)) for quarter, layers in zip(quarters, ways)]
     return found
 
 
@@ -164,10 +189,10 @@ def ways_of(solid: Solid, given: Given, unit: int) -> Iterator[tuple[list[Drawn]
     seen: list[list[Drawn]] = []
     for how in How:
         found = rounded(solid, given, unit, how)
-        for way in [] if found is None else [of_wholes(found), found] if how is How.STRICT else [found]:
+        for way in [] if found is None else [of_wholes(found), found] if how <= How.BETWEEN else [found]:
             if way not in seen:
                 seen.append(way)
-                yield way, how is How.STRICT and not any(it.quarter.is_inner for it in way)
+                yield way, how <= How.BETWEEN and not any(it.quarter.is_inner for it in way)
 
 
 def volume_of(solid: Solid, found: Sequence[Drawn], unit: int) -> tuple[Fraction, Fraction]:

@@ -5,8 +5,9 @@ squared drawing once its rounds are sharp. Of a solid S of the squared drawing R
 corner, in the layers where the corner's inside is full, and by filling it where the inside is empty. This is right both ways where
 
 1. in such a layer full changes to empty, or the reverse, all along both sides of the corner, and nothing else of the boundary comes
-   between the round and the corner but a round whose disc lies within the other's;
-2. in the layers next to it no boundary runs along these sides;
+   between the round and the corner but a round whose disc lies within the other's; or the inside is full, and along some sides a wall goes
+   on that the round touches: there the line of contact is an edge, which the sheet is read without as a tangent one;
+2. in the layers next to it no boundary runs along these sides, but that of such a wall;
 3. where quarters end a wall of some length goes on, along the round or across it;
 4. rounds of different views don't meet in space.
 

@@ -84,8 +84,8 @@ def rounded_told(asked: asking.Asked, rounds: Readings, listed: int) -> list[str
         rows.append(f"solid {number}: {sizes}, volume {asked.rounded_volume(one)}" + (f"; but {one.doubt}" if one.doubt else ""))
     if len(asked.kept) > listed:
         rows.append(f".. and {len(asked.kept) - listed:,} more")
-    rows += first.outcome.told() + rounds.told()
-    if first.given.doubts:
+    rows += rounds.told()
+    if first.given.doubts and rounds.kept:
         more = f" (and {len(first.given.doubts) - 1} more)" if len(first.given.doubts) > 1 else ""
         rows.append(f"Other solids may be missed: {first.given.doubts[0]}{more}.")
     return rows

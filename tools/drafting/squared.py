@@ -2,6 +2,7 @@
 reads, with comments that say what was squared off (`given.py`).
 """
 import argparse
+import bisect
 import itertools
 import math
 from collections import Counter, defaultdict
@@ -9,7 +10,7 @@ from collections.abc import Iterator, Mapping, Sequence
 from fractions import Fraction
 from typing import NamedTuple
 
-from . import chamfers, cones, given, holes, noted, rounds, sheet, tangent
+from . import chamfers, cones, given, holes, noted, rounds, sheet, tangent, unconfirmed
 from .cutting import Mark
 from .drawing import VIEWS, Place
 from .given import Cone, Given, Stretch
@@ -145,6 +146,18 @@ def evening(edges: Sequence[Edge], arcs: Sequence[Arc], at: int) -> dict[float, 
     return table
 
 
+def upon(squares: Sequence[Edge], edges: Sequence[Edge]) -> list[Edge]:
+    """The sides of squares with coordinates that differ by noise alone from those of edges made the same: arcs end less exactly than lines."""
+    values = [sorted({end[at] for edge in edges for end in (edge.start, edge.end)}) for at in (0, 1)]
+
+    def near(place: Place) -> Place:
+        x, y = (min(its[max(0, bisect.bisect(its, at) - 1):][:2], key=lambda it: abs(it - at)) if its else at for at, its in zip(place, values))
+        return x if abs(x - place[0]) <= noise else place[0], y if abs(y - place[1]) <= noise else place[1]
+
+    noise = min([ENDS, *((its[-1] - its[0]) * SHARE for its in values if its)])
+    return [edge._replace(start=near(edge.start), end=near(edge.end)) for edge in squares]
+
+
 # ---- which arcs are of the views
 
 def arc_box(arc: Arc) -> Box:
@@ -187,7 +200,7 @@ def read(path: str | None, read_sheet: Sheet, marks: Sequence[Mark], arguments: 
     if any(edge.source.kind in ("SPLINE", "ELLIPSE") for edge in edges):
         edges = evened(edges, arcs)
     kept, left = arcs_beside(edges, arcs, sheet.curves_of(read_sheet), tolerance)
-    bare = [*edges, *rounds.bare_squares(rounds.rounds_of(kept, tolerance))]
+    bare = [*edges, *upon(rounds.bare_squares(rounds.rounds_of(kept, tolerance)), edges)]
     placed = sheet.found_views(path, read_sheet, bare, marks, arguments, noted.tell_none)
     if missing := [view for view in VIEWS if view not in placed.views]:
         raise Refused(f"{missing[0]} isn't drawn, and a sheet with circles or arcs is read where all three main views are there: draw it too")
@@ -397,7 +410,7 @@ def drawn(found: Found, reading: Reading, corners: Sequence[chamfers.Squared], n
         views = found.views(squares.rounds)
         smooth = [(it, False) for it in tangent.candidates(views) if it.owners & set(reading.inner)]
         lines, left = tangent.without(lines, smooth, found.tolerance), [*left, *smooth]
-    told = given_by(found, placed, lines, squares, corners, tuple(left), float(measure.times))._replace(reading=number)
+    told = given_by(found, placed, lines, squares, corners, tuple(left), float(measure.times))._replace(reading=number, suspects=suspects_of(found))
     tell_squares(told, tell)
     tell_cones(found, tell)
     for stretch in told.smooth:
@@ -410,6 +423,15 @@ def drawn(found: Found, reading: Reading, corners: Sequence[chamfers.Squared], n
         more = len(squares.doubts) - MOST_TOLD
         tell(noted.warning(f"{many(more, 'place')} more of this kind", more))
     return sheet.drawn_views(found.path, found.sheet, placed, times, measure, found.arguments, tell, given.comments(told))
+
+
+def suspects_of(found: Found) -> tuple[str, ...]:
+    """The curves that other views don't confirm, but for those of what is taken off, and of cones."""
+    views = found.views(rounds.rounds_of(found.arcs, found.tolerance))
+    taken = [it.one for it in found.holes]
+    its = [(view, one) for view, one in views.rounds
+           if one not in taken and not is_of_cone(view, one, found.placed, found.cones.its, found.tolerance)]
+    return tuple(it.words for it in unconfirmed.suspects(views._replace(rounds=its)))
 
 
 def tell_squares(told: Given, tell: Tell) -> None:

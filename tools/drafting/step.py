@@ -105,8 +105,8 @@ def rounded_shapes(asked: asking.Asked) -> dict[int, Shape]:
     assert asked.rounds
     first = next(iter(asked.rounds.kept), asked.rounds.first)
     if not asked.kept:
-        raise Refused("; ".join(["no solid is kept once it is rounded back", *(first.outcome.told() if first else [])]))
-    for text in (*(first.outcome.told() if first else []), *asked.rounds.told(), *(f"warning: {it}" for it in (first.given.doubts if first else []))):
+        raise Refused(" ".join(["no solid is kept once it is rounded back.", *asked.rounds.outcome, *asked.rounds.cause]))
+    for text in (*asked.rounds.told(), *(f"warning: {it}" for it in (first.given.doubts if first else []))):
         say(f"draft step: {text}")
     answer = asked.answer()._replace(solids=of_first_reading(asked))
     warn_ambiguous(len(asked.kept), turned_back(answer) if asked.origin.mirrored else answer, asked.sheet())

@@ -51,7 +51,8 @@ def of_rounds(asked: asking.Asked, number: int) -> str:
     from .bodies import turned_round as in_a_mirror
     from .meshes import fineness
     if not 1 <= number <= len(asked.kept):
-        raise Refused(f"there is no solid {number}: {many(len(asked.kept), 'solid')} of this sheet are kept")
+        cause = asked.rounds.cause if asked.rounds else []
+        raise Refused(" ".join([f"there is no solid {number}: {many(len(asked.kept), 'solid')} of this sheet are kept.", *cause]))
     one, given = asked.kept[number - 1], given_in(asked.lines)
     if one.shape is None or given is None:
         raise Refused(kept.LACKING)

@@ -344,7 +344,8 @@ def told_of(
     further = further_lines(asked.lines, asked.decimals, with_sections)
     if not further:
         rows, found = looked_at(path, sheet, asked.run.text.partition("\n")[0], limits, tell, given)
-        return ([*rows[:1], SQUARED.format(given.kinds), *rows[1:]] if given else rows), found
+        cause = asked.rounds.cause if asked.rounds else []
+        return ([*rows[:1], SQUARED.format(given.kinds), *cause, *rows[1:]] if given else rows), found
     tried = Tried(grid_of(sheet))
     main = tried.changed(())
     alone = program.run(path, [*tried.words, "--nodes", program.MOST_NODES, "--solids", program.MOST_SOLIDS], main)
@@ -359,9 +360,7 @@ def told_of(
 def rounds_told(asked: asking.Asked) -> list[str]:
     """What is told of a sheet with rounds of whose squared drawing there are solids."""
     assert asked.rounds
-    first = next(iter(asked.rounds.kept), asked.rounds.first)
-    rows = [*(first.outcome.told() if first else []), *asked.rounds.told()]
-    count = len(asked.kept)
+    rows, count = asked.rounds.told(), len(asked.kept)
     return [f"Nothing is wrong: {many(count, 'solid')} {'has' if count == 1 else 'have'} these views." if count else "No solid is kept.", *rows]
 
 

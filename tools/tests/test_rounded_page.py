@@ -8,6 +8,7 @@ from drafting.messages import Refused
 
 from .opened import PATIENCE, Opened
 from .support import draft, needs_command, needs_program
+from .test_chamfers import drilled_bracket
 from .test_serve import needs_packages
 
 try:
@@ -43,19 +44,18 @@ def plate() -> Any:
 @needs_packages
 @needs_program()
 @needs_command("chromium", "chromium")
-class Round(Opened):
-    def setUp(self) -> None:
-        super().setUp()
-        self.file = self.folder / "plate.dxf"
-        self.shape = plate()
+class Shown(Opened):
+    """What is shown of a part: its shape, and its volume as it is told."""
+
+    def drawn(self, shape: Any, volume: str) -> None:
+        self.file, self.shape, self.volume = self.folder / "plate.dxf", shape, volume
         parts.sheet_of(self.shape, self.file)
 
     def check_shown(self, name: str) -> None:
         """The solid is round; squared off it looks otherwise, and its volume stays that of the round one."""
         self.browser.until("viewer.state.how === 'whole' && viewer.tiles[0].scene !== null", PATIENCE)
         told = self.value(VOLUME)
-        # 50 by 40 by 8 less a hole of 5; a boss of 12 above, 12 high; and a hole of 7 through both.
-        self.assertEqual(told.partition(" = ")[0], f"volume 16,000 + {-25 * 8 + 144 * 12 - 49 * 20} pi")
+        self.assertEqual(told.partition(" = ")[0], self.volume)
         last = float(re.findall(r"= ([\d,.]+)", told)[0].replace(",", ""))
         self.assertAlmostEqual(last, self.shape.Volume, 1)
         units = self.value("Number(viewer.model.per[0]) / Number(viewer.model.per[1])")
@@ -73,6 +73,13 @@ class Round(Opened):
         self.value("document.querySelector('#squared').click()")
         self.browser.settle()
         self.assertIsNotNone(self.value(ENCLOSED))
+
+
+class Round(Shown):
+    def setUp(self) -> None:
+        super().setUp()
+        # 50 by 40 by 8 less a hole of 5; a boss of 12 above, 12 high; and a hole of 7 through both.
+        self.drawn(plate(), f"volume 16,000 + {-25 * 8 + 144 * 12 - 49 * 20} pi")
 
     def test_at_the_drafting_table(self) -> None:
         self.drop(self.file)
@@ -100,3 +107,11 @@ class Round(Opened):
         page.write_text(draft("page", squared, answer).out)
         self.browser.visit(page.as_uri())
         self.check_shown("rounds_of_an_answer")
+
+
+class Chamfered(Shown):
+    def test_a_gusset_at_the_drafting_table(self) -> None:
+        # 60 * 40 * 8 + 60 * 8 * 42 + 8 * 20 * 28 / 2, and holes of 16 * 8 and 9 * 8.
+        self.drawn(drilled_bracket(), "volume 41,600 - 200 pi")
+        self.drop(self.file)
+        self.check_shown("a_gusset_at_the_table")

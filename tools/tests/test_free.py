@@ -1,0 +1,102 @@
+"""Rounds that don't stand quite free: bosses that touch walls, shafts with keyways, eyes and slots come to the parts; where no solid is kept,
+all commands name the curves that the other views don't confirm."""
+from typing import Any
+
+from drafting.given import Given, comments, given_in
+
+from . import test_rounds
+from .support import draft
+
+if not test_rounds.missing:
+    from . import rounded_parts as parts
+    from .rounded_parts import box, cylinder
+
+
+def tray(*centres: tuple[float, float]) -> Any:
+    """A tray with hollow bosses of a radius of 6 on its floor, within walls 4 thick."""
+    shape = box(0, 0, 0, 80, 50, 30).cut(box(4, 4, 4, 76, 46, 30))
+    for centre in centres:
+        shape = shape.fuse(cylinder(2, centre, 4, 20, 6)).cut(cylinder(2, centre, 8, 20, 2.5))
+    return shape.removeSplitter()
+
+
+def undercut() -> Any:
+    """A hole as wide as the slot under it."""
+    return box(0, 0, 0, 60, 40, 20).cut(box(0, 14, 0, 60, 26, 8)).cut(cylinder(2, (30, 20), 0, 20, 6))
+
+
+class Kept(test_rounds.InAFolder):
+    def one(self, shape: Any, volume: str = "") -> None:
+        parts.sheet_of(shape, self.file)
+        asked = self.asked()
+        self.exact(shape, asked)
+        if volume:
+            self.assertEqual(asked.rounded_volume(asked.kept[0]), volume)
+
+    def test_bosses_that_touch_walls(self) -> None:
+        # 80 * 50 * 30 - 72 * 42 * 26, and of each boss 36 * 16 - 6.25 * 12.
+        self.one(tray((10, 25)), "41,376 + 501 pi = 42,949.94 mm³")
+        self.one(tray((10, 10)), "41,376 + 501 pi = 42,949.94 mm³")
+        self.one(tray((10, 25), (70, 40)), "41,376 + 1,002 pi = 44,523.88 mm³")
+        # The wall is no higher than the boss' lower half.
+        self.one(box(0, 0, 0, 60, 40, 10).fuse(box(0, 30, 10, 60, 40, 18)).fuse(cylinder(2, (20, 22), 10, 25, 8)))
+
+    def test_their_lines_of_contact_drawn_as_smooth_edges(self) -> None:
+        parts.sheet_of(tray((10, 25)), self.file, groups=(0, 1, 3, 5, 6, 8))
+        asked = self.asked()
+        self.exact(tray((10, 25)), asked)
+        self.assertEqual(asked.kept[0].doubt, "")
+
+    def test_a_keyway_through_and_an_eye(self) -> None:
+        self.one(cylinder(0, (15, 15), 0, 60, 15).fuse(cylinder(0, (15, 15), 60, 90, 10)).cut(box(-1, 12, 25, 30, 18, 40)))
+        eye = cylinder(1, (20, 20), 0, 16, 20).fuse(box(20, 0, 10, 90, 16, 30)).removeSplitter()
+        self.one(eye.cut(cylinder(1, (20, 20), 0, 16, 9)))
+
+    def test_arcs_that_end_less_exactly_than_lines(self) -> None:
+        def rough(space: Any, places: Any) -> None:
+            for line in space.query("LINE"):
+                line.dxf.start, line.dxf.end = ((round(it.x, 3), round(it.y, 3)) for it in (line.dxf.start, line.dxf.end))
+
+        eye = cylinder(1, (20, 20), 0, 16, 20).fuse(box(20, 0, 10, 90, 16, 30)).removeSplitter()
+        parts.sheet_of(eye, self.file, rough)
+        self.exact(eye)
+
+
+class Causes(test_rounds.InAFolder):
+    CURVE = r"The likely cause is a curve that doesn't stand free: the circle of radius 6 at 130, 160 \(CIRCLE \w+ on layer 0\) in TOP, whose outline "
+
+    def test_all_commands_name_the_curve(self) -> None:
+        parts.sheet_of(undercut(), self.file)
+        words = self.CURVE + "in FRONT at x 124 and FRONT at x 136 goes along it over 12 of 20 alone"
+        squared = self.file.with_name("squared.dxf")
+        self.assertEqual(draft("sheet", self.file, "-o", squared).status, 0)
+        for command, file in (("solve", self.file), ("solve", squared), ("why", self.file), ("judge", self.file), ("stl", self.file)):
+            with self.subTest(command=command, file=file.name):
+                ended = draft(command, *(("--runs", 1, "--search", 0.1, "--processes", 1) if command == "why" else ()), file)
+                self.assertRegex(ended.out + ended.said, words)
+        step = draft("step", self.file, self.file.with_suffix(".step"))
+        self.assertEqual(step.status, 1)
+        self.assertRegex(step.said, words)
+        self.assertRegex(draft("table", self.file.parent, "--csv", "--memory", 0).out.replace('""', '"'), words)
+
+    def test_a_curve_without_an_outline_comes_first(self) -> None:
+        def lacking(space: Any, places: dict[str, tuple[float, float]]) -> None:
+            x, _ = places["FRONT"]
+            for line in [it for it in space.query("LINE") if it.dxf.start.x == it.dxf.end.x == x + 35]:
+                space.delete_entity(line)
+
+        parts.sheet_of(box(0, 0, 0, 50, 40, 10).cut(cylinder(2, (12, 20), 4, 10, 3)).cut(cylinder(2, (30, 20), 0, 10, 5)), self.file, lacking)
+        ended = draft("solve", self.file)
+        self.assertRegex(ended.out, r"stand free: the circle of radius 5 at 130, 150 \(CIRCLE \w+ on layer 0\) in TOP, whose outline in FRONT at x "
+                                    "135 isn't drawn: something cuts it off, or it goes over into what is wider")
+
+    def test_where_no_curve_is_suspected_that_is_said(self) -> None:
+        parts.sheet_of(box(0, 0, 0, 60, 40, 10).fuse(box(0, 30, 10, 60, 40, 25)).fuse(cylinder(2, (20, 22), 10, 25, 8)), self.file)
+        ended = draft("solve", self.file)
+        self.assertIn("No solid is found", ended.out)
+        self.assertIn("The cause isn't a curve that the other views don't confirm: ", ended.out)
+
+    def test_a_suspect_is_written_and_read(self) -> None:
+        given = given_in(comments(Given([], {}, {}, [], [], [], suspects=("a", "b c"))).splitlines() + ["999", "draft hole TOP 40 25 6 0 8"])
+        assert given
+        self.assertEqual(given.suspects, ("a", "b c"))
