@@ -264,7 +264,7 @@ def drawn_of(path: str | None, arguments: argparse.Namespace, tell: Tell) -> she
 def angle_of(path: str | None, arguments: argparse.Namespace, refusal: TwoReadings) -> argparse.Namespace:
     """The arguments with the angle in which alone some solid has two views; refused where there is no such one, or hidden lines aren't drawn."""
     if getattr(arguments, "visible_edges_alone", False):
-        raise Refused(str(refusal))
+        raise refusal
     outcomes = {}
     for angle in refusal.angles:
         known = argparse.Namespace(**{**vars(arguments), "angle": angle})
@@ -275,7 +275,7 @@ def angle_of(path: str | None, arguments: argparse.Namespace, refusal: TwoReadin
     if len(fitting) == 1:
         return fitting[0]
     told = "; ".join(f"in {angle} angle {outcome.words}" for angle, (_, outcome) in outcomes.items())
-    raise Refused(f"{refusal}\n  recon lists {told}")
+    raise refusal.with_words(f"\n  recon lists {told}")
 
 
 def is_taken(path: str, arguments: argparse.Namespace) -> bool:
@@ -300,7 +300,7 @@ def of_sheet(path: str | None, arguments: argparse.Namespace, tell: Tell, comman
     except Refused as refusal:
         if path is None or not is_taken(path, arguments):
             raise
-        raise Refused(f"{refusal}\n  ({option('as-is')} has recon read the file as it is)") from None
+        raise refusal.with_words(f"\n  ({option('as-is')} has recon read the file as it is)") from None
     if rounds and (chosen := rounds.likeliest):
         drawn = chosen.drawn
     for note in drawn.notes:

@@ -361,7 +361,8 @@ def refused(arguments: argparse.Namespace, refusal: Refused, search: Search) -> 
         words = ["solve", *asking.views_words(lines), "--decimals", decimals_of(lines), "--solids", 1, "--nodes", 1]
         head = program.run(program.find(arguments.program), words, data, arguments.seconds).text.partition("\n")[0]
         yield drawing_event(lines, Units(0, origin_of(lines)), head if faults.name_of(head) else "")
-    yield end_event("refused", shown.refused_told(str(refusal)), str(refusal))
+    told = end_event("refused", shown.refused_told(str(refusal)), str(refusal))
+    yield {**told, "option": refusal.option, "ways": refusal.ways} if refusal.ways else told
 
 
 # Why what is looked for beyond a search is ended, by the line that asks for that.

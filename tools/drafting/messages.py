@@ -5,13 +5,21 @@ import signal
 import sys
 import tempfile
 import time
-from collections.abc import Callable
+from collections.abc import Callable, Sequence
 from types import FrameType
 from typing import Any
 
 
 class Refused(Exception):
-    """An input that isn't taken, and why."""
+    """An input that isn't taken, and why; where it may be taken in several ways, the option that says which one, and what that may be."""
+
+    def __init__(self, text: str, option: str = "", ways: Sequence[str] = ()) -> None:
+        super().__init__(text)
+        self.option, self.ways = option, list(ways)
+
+    def with_words(self, more: str) -> "Refused":
+        """The refusal with further words at its end."""
+        return Refused(f"{self}{more}", self.option, self.ways)
 
 
 class Usage(Refused):

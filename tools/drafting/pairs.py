@@ -25,7 +25,7 @@ class TwoReadings(Refused):
 
     def __init__(self, ways: Sequence[Way], groups: Sequence[Group]) -> None:
         rows = "".join(f"\n  {option('angle', way.angle)}, {reading_told(way, groups)}" for way in ways)
-        super().__init__(f"two views in line may be read in two ways, and which one is meant has to be said:{rows}")
+        super().__init__(f"two views in line may be read in two ways, and which one is meant has to be said:{rows}", "angle", [way.angle for way in ways])
         self.angles = [way.angle for way in ways]
 
 
@@ -79,8 +79,9 @@ def refuse_third(it: Standing, views: Sequence[Group], hints: Hints) -> None:
     if others:
         numbers = [number_in(it.groups, group) for group in others]
         told = "".join(f"\n  group {number}, {group}, whose first entity is {group.first}" for number, group in zip(numbers, others))
+        way = f"group={numbers_told(numbers)}"
         raise Refused(f"beside two views stands what may be the third one and isn't read as one; where it is none, leave it out by "
-                      f"{option('leave-out', 'group=' + numbers_told(numbers))}:{told}")
+                      f"{option('leave-out', way)}:{told}", "leave-out", [way])
 
 
 def is_double(frame: Group) -> bool:

@@ -328,7 +328,7 @@ def by_places(runs: Sequence[Run], hints: Hints) -> Placed:
         try:
             return placed_by(runs, hints._replace(curves=()))
         except Refused:
-            raise Refused(f"{refusal}{curves_told(hints.curves)}") from None
+            raise refusal.with_words(curves_told(hints.curves)) from None
 
 
 def curves_told(curves: Sequence[Unread]) -> str:
@@ -383,7 +383,7 @@ def placed_by(runs: Sequence[Run], hints: Hints) -> Placed:
     if len(ways) != 1:
         refuse_in_place(groups, kept, cut, hints)
         told = [f"\n  group {number + 1} is a section, since {why}" for number, why in cut.items()]
-        raise Refused(no_way(groups, chosen, ways, hints) + "".join(told))
+        raise no_way(groups, chosen, ways, hints).with_words("".join(told))
     way = ways[0]
     others = [group for group in chosen if not any(group is it for it in way.views.values())]
     left += beside(groups, others, title_blocks(around, list(way.views.values()), hints.tolerance), hints)
@@ -417,8 +417,9 @@ def beside(groups: Sequence[Group], others: Sequence[Group], blocks: Sequence[Gr
     if unknown:
         told = [f"group {at}, {groups[at - 1]}, whose first line is {groups[at - 1].first}" for at in unknown[:MOST_NAMED]]
         told += [f"and {len(unknown) - MOST_NAMED} more"] if len(unknown) > MOST_NAMED else []
-        raise Refused(f"beside the views {ONE if len(unknown) == 1 else SEVERAL} {option('leave-out', 'group=' + numbers_told(unknown))}:"
-                      + "".join(f"\n  {it}" for it in told))
+        way = f"group={numbers_told(unknown)}"
+        raise Refused(f"beside the views {ONE if len(unknown) == 1 else SEVERAL} {option('leave-out', way)}:" + "".join(f"\n  {it}" for it in told),
+                      "leave-out", [way])
 
 
 def numbers_told(numbers: Sequence[int]) -> str:
@@ -440,18 +441,21 @@ def numbers_of(text: str) -> list[int]:
     return [number for its in ends for number in range(its[0], min(its[-1], MOST_GROUPS) + 1)]
 
 
-def no_way(groups: Sequence[Group], chosen: Sequence[Group], ways: Sequence[Way], hints: Hints) -> str:
+def no_way(groups: Sequence[Group], chosen: Sequence[Group], ways: Sequence[Way], hints: Hints) -> Refused:
     """The refusal of groups that can be taken in no way or in several, with what was seen."""
     seen = [f"group {number}: {group}, first {group.first}" for number, group in enumerate(groups[:MOST_NAMED], 1)]
     count = f"there are {len(ways)} ways" if ways else "there is no way"
     angle = f" in {hints.angle} angle" if hints.angle else ""
     text = f"{count} to take three of these as FRONT, TOP and SIDE{angle}"
-    near = nearly(chosen, hints) if not ways else ""
+    near, said, its = nearly(chosen, hints) if not ways else "", "", list[str]()
     if len({way.angle for way in ways}) == 2 and all(way.views["FRONT"] is ways[0].views["FRONT"] for way in ways):
         near = f"TOP may stand above FRONT (third angle) or below it (first angle): say which by {option('angle')}"
-    elif len(ways) > 1 and (others := others_of(groups, ways)):
-        near = f"for one of several parts leave out what isn't of it, by {' or '.join(option('leave-out', f'group={its}') for its in others)}"
-    return "\n  ".join([text + (f": {near}" if near else ""), *seen, *(["and more"] if len(groups) > MOST_NAMED else [])])
+        said, its = "angle", sorted({way.angle for way in ways}, reverse=True)
+    elif len(ways) > 1 and (others := [f"group={its}" for its in others_of(groups, ways)]):
+        near = f"for one of several parts leave out what isn't of it, by {' or '.join(option('leave-out', it) for it in others)}"
+        said, its = "leave-out", others
+    rows = [text + (f": {near}" if near else ""), *seen, *(["and more"] if len(groups) > MOST_NAMED else [])]
+    return Refused("\n  ".join(rows), said, its)
 
 
 def others_of(groups: Sequence[Group], ways: Sequence[Way]) -> list[str]:

@@ -20,10 +20,12 @@ MOST_FILE = 16 << 20
 MOST_REQUEST = 2 * MOST_FILE + (1 << 16)
 WHICH = r"(color|colour|layer|linetype|group)=[^\x00-\x1f]{1,100}"
 NUMBER = r"\d{1,6}(\.\d{1,6})?"
+NAME = r"[^\x00-\x1f]{1,1000}"
 # What may be said of a drawing, and what each may be.
 OPTIONS = {
     "solids": r"[1-9]\d{0,4}", "nodes": r"[1-9]\d{0,6}", "decimals": "[0-6]", "sheet-decimals": "[0-6]", "angle": "third|first",
     "scale": f"{NUMBER}:{NUMBER}", "tolerance": r"\d{0,3}\.?\d{1,9}", "hidden": WHICH, "visible": WHICH, "leave-out": WHICH,
+    "sheet-page": NAME, "part": NAME,
 }
 SWITCHES = ("as-is", "all-visible", "as-drawn")
 MOST_OPTIONS = 40

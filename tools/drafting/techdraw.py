@@ -34,14 +34,6 @@ TOWARDS = {"FRONT": (1, -1), "TOP": (2, 1), "SIDE": (0, 1), "LEFT": (0, -1), "RE
 Frame = tuple[Any, Any, Any]
 
 
-class SeveralParts(Refused):
-    """Views of several parts, one of which is meant."""
-
-    def __init__(self, text: str, labels: list[str]) -> None:
-        super().__init__(text)
-        self.labels = labels
-
-
 class Looking(NamedTuple):
     """A view of the document, the direction towards its viewer, and its right and upward direction."""
 
@@ -76,12 +68,20 @@ def page_of(doc: Any, named: str | None) -> Any:
     pages = [it for it in every if named is None or named in (it.Name, it.Label)]
     if len(pages) == 1:
         return pages[0]
-    labels = ", ".join(it.Label for it in every)
     if not every:
         raise Refused("there is no page of TechDraw in the document")
+    names = names_apart([(it.Label, it.Name) for it in every])
+    told = ", ".join(names)
+    text = f"{'no page' if not pages else 'more than one page'} is called {named}: there {'is' if len(every) == 1 else 'are'} {told}"
     if named is None:
-        raise Refused(f"there are {len(every)} pages in the document: name one of {labels} by {option('sheet-page')}")
-    raise Refused(f"{'no page' if not pages else 'more than one page'} is called {named}: there {'is' if len(every) == 1 else 'are'} {labels}")
+        text = f"there are {len(every)} pages in the document: name one of {told} by {option('sheet-page')}"
+    raise Refused(text, "sheet-page", names)
+
+
+def names_apart(known: Sequence[Sequence[str]]) -> list[str]:
+    """Of the names that each of some things has the first one that can be typed and that no other thing has."""
+    counts = Counter(name for names in known for name in set(names))
+    return [next((it for it in names if counts[it] == 1 and it == it.strip() and it.isprintable()), names[-1]) for names in known]
 
 
 # ---- the views of one part
@@ -117,14 +117,17 @@ def labels_of(sources: Sequence[Any]) -> str:
 def views_of_part(page: Any, named: str | None, tell: Tell) -> list[Any]:
     """The views of the part that is named, or of the only one of which there are two or more."""
     parts = by_parts(page, tell)
-    known = {key: {labels_of(sources_of(views[0])), *(it.Name for it in sources_of(views[0]))} for key, views in parts.items()}
+    known = {key: [labels_of(sources_of(views[0])), *(it.Name for it in sources_of(views[0]))] for key, views in parts.items()}
     fit = [key for key, views in parts.items() if (named in known[key] if named is not None else len(views) > 1)]
     told = {key: f"{many(len(views), 'view')} of {labels_of(sources_of(views[0]))}" for key, views in parts.items()}
     seen = f"page {page.Label} has {'; '.join(told.values()) or 'no view of a part'}"
+    names = dict(zip(known, names_apart(list(known.values()))))
     if len(fit) > 1:
-        raise SeveralParts(f"{seen}: which part is meant has to be said, by {option('part')}", [labels_of(sources_of(parts[key][0])) for key in fit])
+        raise Refused(f"{seen}: which part is meant has to be said, by {option('part')}", "part", [names[key] for key in fit])
+    if not fit and named is not None:
+        raise Refused(f"{seen}: none of a part called {named}", "part", [names[key] for key, views in parts.items() if len(views) > 1])
     if not fit:
-        raise Refused(f"{seen}: {'two views of one part are needed, or three' if named is None else f'none of a part called {named}'}")
+        raise Refused(f"{seen}: two views of one part are needed, or three")
     for key in parts.keys() - fit:
         tell(noted.left_out(told[key], len(parts[key])))
     return parts[fit[0]]

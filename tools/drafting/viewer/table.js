@@ -15,6 +15,9 @@ const MOST_FILE = 16 * 1024 * 1024;
 const ALIVE = 3000;
 const PATIENT = 5000;
 const SAVED_AS = { dxf: "its drawing, one line for each edge", stl: "its boundary as triangles", step: "its faces, by FreeCAD" };
+// What may be said several times, with semicolons between; and what is said of one file alone.
+const REPEATED = ["hidden", "visible", "leave-out"];
+const OF_A_FILE = ["second", "sheet-page", "part"];
 const SAVED_HERE = "made from its blocks, since its search isn't whole";
 
 const table = { shown: null, key: "", name: "", began: 0 };
@@ -64,21 +67,29 @@ function showLost() {
 
 // ---- a drawing
 
+/** The field of the form in which an option is said. */
+function fieldOf(name) {
+  return find(".options form").elements[name];
+}
+
+/** What is said in a field. */
+function saidIn({ name, value }) {
+  return (REPEATED.includes(name) ? value.split(";") : [value]).map((one) => one.trim()).filter(Boolean);
+}
+
 /** How the drawing is to be read, as it is said in the form. */
 function optionsNow() {
   const options = [];
-  for (const { name, type, value, checked } of find(".options form").elements) {
-    if (type === "checkbox" && checked) options.push(name);
-    else if (name && !["checkbox", "file", "submit"].includes(type) && value.trim()) {
-      for (const one of value.split(";")) options.push([name, one.trim()]);
-    }
+  for (const field of find(".options form").elements) {
+    if (field.type === "checkbox" && field.checked) options.push(field.name);
+    else if (field.name && !["checkbox", "file", "submit"].includes(field.type)) options.push(...saidIn(field).map((one) => [field.name, one]));
   }
   return options;
 }
 
-/** Takes a drawing that is new here: what was a second export of the one before is none of this one. */
+/** Takes a drawing that is new here: what was said of the file of the one before alone is none of this one. */
 function showNew(file) {
-  find("[name=second]").value = "";
+  for (const name of OF_A_FILE) fieldOf(name).value = "";
   showFile(file);
 }
 
@@ -177,11 +188,11 @@ async function comeBack() {
 
 /** Has the form say what was asked. */
 function showOptions(options) {
-  const form = find(".options form");
   for (const option of options) {
-    const field = form.elements[Array.isArray(option) ? option[0] : option];
+    const [name, value] = Array.isArray(option) ? option : [option];
+    const field = fieldOf(name);
     if (field?.type === "checkbox") field.checked = true;
-    else if (field) field.value = option[1];
+    else if (field) field.value = REPEATED.includes(name) ? [...new Set([...saidIn(field), value])].join("; ") : value;
   }
 }
 
@@ -190,7 +201,7 @@ const TOLD = {
   queued: ({ before }) => showProgress(before ? `Waiting: ${before} before this one` : "Waiting for its turn"),
   began: () => showProgress("Reading"),
   grid: () => showProgress("Searching"),
-  end: ({ how }) => showEnd(how),
+  end: ({ how, option, ways }) => showEnd(how, option, ways ?? []),
   looking: () => showProgress("Looking for what is wrong"),
   looked: () => finish(),
   over: ({ text }) => finish(text && `It ended: ${text}.`),
@@ -201,6 +212,20 @@ function takeTold(event) {
   take(event);
   TOLD[event.kind]?.(event);
   return event.kind === "over";
+}
+
+/** Offers what may be said of a drawing that may be taken in several ways: it is read again so. */
+function showWays(option, ways) {
+  const place = Object.assign(document.createElement("p"), { className: "acts ways" });
+  const field = fieldOf(option);
+  place.append(`${field.labels[0].firstChild.textContent.trim()}: `);
+  for (const way of ways) {
+    place.append(buttonOf(way, () => {
+      field.value = REPEATED.includes(option) ? [...saidIn(field), way].join("; ") : way;
+      showFile(table.shown);
+    }));
+  }
+  find(".told").append(place);
 }
 
 // ---- how far it is
@@ -216,7 +241,8 @@ function showTime() {
   find(".progress .time").textContent = `${model.count ? `${many(model.count, "solid")} so far, ` : ""}${seconds} s`;
 }
 
-function showEnd(how) {
+function showEnd(how, option, ways) {
+  if (ways.length) showWays(option, ways);
   if (["fault", "refused"].includes(how)) finish();
   else showProgress("Looking at what was found");
 }

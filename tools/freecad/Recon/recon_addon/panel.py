@@ -258,12 +258,13 @@ class PagePanel(Panel):
         """Takes the page here, since links to other documents are known here alone; it is drawn by the other process."""
         settings.with_tools()
         from drafting import anew, noted, techdraw
+        from drafting.messages import Refused
         self.forget()
         self.ways, self.part, notes = [], 0, list[noted.Note]()
         try:
             page, views = techdraw.taken(self.page, self.meant, notes.append)
-        except techdraw.SeveralParts as several:
-            for label in several.labels:
+        except Refused as refusal:
+            for label in refusal.ways if refusal.option == "part" else ():
                 self.button(translate("Recon", "Views of {}", label), functools.partial(self.choose, label))
             raise
         self.views = {name: view.of for name, view in views.items()}
