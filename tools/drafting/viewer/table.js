@@ -3,6 +3,7 @@
 import { state, when } from "./state.js";
 import { buttonOf, find, many, spanOf } from "./pieces.js";
 import { choiceOf, model } from "./model.js";
+import { camera, renderer, startDrawing } from "./scene.js";
 import { addToFigures } from "./tiles.js";
 import { numberAt } from "./choices.js";
 import { addBy } from "./settle.js";
@@ -352,6 +353,15 @@ function listenForFiles() {
   });
 }
 
+/** Has the browser make ready what draws, before there is something to be drawn: that takes it a while. */
+function prepareDrawing() {
+  if (!startDrawing()) return;
+  const lines = new THREE.LineSegmentsGeometry().setPositions([0, 0, 0, 1, 1, 1]);
+  const scene = new THREE.Scene();
+  scene.add(new THREE.Mesh(new THREE.BoxBufferGeometry(), new THREE.MeshBasicMaterial()), new THREE.LineSegments2(lines, new THREE.LineMaterial()));
+  renderer.render(scene, camera);
+}
+
 function listenAtTable() {
   listenForFiles();
   giveBy({ isServed: true, show: showSuggested });
@@ -369,6 +379,7 @@ function listenAtTable() {
   find(".save-page").addEventListener("click", savePage);
   window.addEventListener("pagehide", () => leave(false));
   setInterval(showTime, 100);
+  setTimeout(prepareDrawing);
   comeBack();
 }
 
