@@ -17,10 +17,8 @@ try:
 except ImportError:
     sheets = test_advice = test_causes = None  # type: ignore[assignment]
 try:
-    from drafting import cad
-
     from .documents import Document, box, corner
-    missing = "" if cad else ""
+    missing = ""
 except Refused:
     missing = "apt-get install freecad-python3"
 
@@ -34,6 +32,12 @@ def document(folder: pathlib.Path) -> pathlib.Path:
     for feature in features:
         one.group(second, [feature])
     return one.saved(str(folder), "several")
+
+
+def two_views(space: Any) -> None:
+    """FRONT and TOP of a box, which may be read in third and in first angle."""
+    for at in ((0.0, 0.0, 6.0, 5.0), (0.0, 10.0, 6.0, 14.0)):
+        test_causes.box(space, at)
 
 
 @needs_packages
@@ -69,7 +73,7 @@ class Told(unittest.TestCase):
         for draw, option, ways in (
             (test_advice.two_parts, "leave-out", ["group=4-6", "group=1-3"]),
             (test_causes.with_views(test_causes.boxes(2)), "leave-out", ["group=4-5"]),
-            (lambda space: [test_causes.box(space, at) for at in ((0, 0, 6, 5), (0, 10, 6, 14))], "angle", ["third", "first"]),
+            (two_views, "angle", ["third", "first"]),
         ):
             with self.subTest(ways):
                 doc = sheets.new()
