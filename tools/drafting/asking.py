@@ -305,6 +305,10 @@ def of_sheet(path: str | None, arguments: argparse.Namespace, tell: Tell, comman
         drawn = chosen.drawn
     for note in drawn.notes:
         tell(note)
+    if drawn.has_sections and not arguments.sections:
+        # What is asked of the drawing later on reads them too.
+        arguments.sections = True
+        tell(noted.found("sections of the sheet, which are read as its views are"))
     data = drawn.text.encode()
     lines = lines_within(data)
     words = [*command, *views_words(lines), *sections_words(command, arguments), *decimals_words(command, drawn.decimals), *words_of(arguments)]

@@ -3,10 +3,11 @@
 A letter with a head beside it is one end of such a line; a letter that has two ends names a section. The line between them is a centre
 line, which is passed over; its thick ends and the shafts of its arrows are drawn as visible lines, and would join the view that it cuts.
 """
+import itertools
 import math
 import re
 from collections import defaultdict
-from collections.abc import Iterator, Sequence
+from collections.abc import Container, Iterator, Sequence
 from typing import Any, NamedTuple
 
 from .drawing import Place
@@ -28,10 +29,11 @@ class Word(NamedTuple):
 
 
 class Head(NamedTuple):
-    """An arrow head: the box round it, or its tip alone."""
+    """An arrow head: the box round it, or its tip alone; and from where to where it points, where that is told."""
 
     box: Box
     source: Source
+    points: tuple[Place, Place] | None = None
 
     @property
     def size(self) -> float:
@@ -39,11 +41,12 @@ class Head(NamedTuple):
 
 
 class Mark(NamedTuple):
-    """One end of a cutting-plane line: its letter, and its arrow head."""
+    """One end of a cutting-plane line: its letter, its arrow head, and the strokes that are drawn there."""
 
     letter: str
     word: Word
     head: Head
+    strokes: tuple[Edge, ...] = ()
 
 
 def distance(box: Box, place: Place) -> float:
@@ -86,19 +89,30 @@ def is_head(hatch: Any) -> bool:
     return bool(hatch.dxf.get("solid_fill", 0)) and len(paths) == 1 and len(set(corners_of(paths[0]))) == 3
 
 
+def points_of(corners: Sequence[Place]) -> tuple[Place, Place] | None:
+    """From where to where a triangle points: from the middle of its shortest side to the corner across."""
+    its = list(dict.fromkeys((round(x, 9), round(y, 9)) for x, y in corners))
+    if len(its) != 3:
+        return None
+    a, b = min(itertools.combinations(its, 2), key=lambda ends: math.dist(*ends))
+    return ((a[0] + b[0]) / 2, (a[1] + b[1]) / 2), next(it for it in its if it not in (a, b))
+
+
 def heads_of(sheet: Sheet, edges: Sequence[Edge], others: Sequence[Arrow], tolerance: float) -> Iterator[Head]:
     """The arrow heads of a sheet, but those of exploded dimensions: filled triangles, inserted blocks, leaders and open ones."""
     for arrow in sheet.arrows:
         if not any(arrow is other for other in others):
             xs, ys = zip(*arrow.tips)
             grown = arrow.size if len(arrow.tips) == 1 else 0.0
-            yield Head((min(xs) - grown, min(ys) - grown, max(xs) + grown, max(ys) + grown), arrow.source)
+            around = min(xs) - grown, min(ys) - grown, max(xs) + grown, max(ys) + grown
+            yield Head(around, arrow.source, arrow.points or points_of(arrow.tips))
     for kept in sheet.kept:
         if kept.source.kind == "LEADER" and len(kept.entity.vertices) > 1:
             (a, b, *_), (c, d, *_) = kept.entity.vertices[0], kept.entity.vertices[-1]
-            yield Head((min(a, c), min(b, d), max(a, c), max(b, d)), kept.source)
+            tail = kept.entity.vertices[1]
+            yield Head((min(a, c), min(b, d), max(a, c), max(b, d)), kept.source, ((tail[0], tail[1]), (a, b)))
         elif kept.source.kind == "HATCH" and is_head(kept.entity) and (box := box_of(kept.entity)):
-            yield Head(box, kept.source)
+            yield Head(box, kept.source, points_of(corners_of(list(kept.entity.paths)[0])))
     yield from open_heads(edges, tolerance)
 
 
@@ -112,13 +126,14 @@ def open_heads(edges: Sequence[Edge], tolerance: float) -> Iterator[Head]:
     for its in ends.values():
         if len(its) == 2 and abs(math.dist(*its[0][1:]) - math.dist(*its[1][1:])) <= 3 * tolerance:
             xs, ys = zip(its[0][1], its[0][2], its[1][2])
-            yield Head((min(xs), min(ys), max(xs), max(ys)), its[0][0].source)
+            tail = (its[0][2][0] + its[1][2][0]) / 2, (its[0][2][1] + its[1][2][1]) / 2
+            yield Head((min(xs), min(ys), max(xs), max(ys)), its[0][0].source, (tail, its[0][1]))
 
 
 # ---- the marks and their strokes
 
-def marks_of(sheet: Sheet, edges: Sequence[Edge], others: Sequence[Arrow], tolerance: float) -> list[Mark]:
-    """The ends of cutting-plane lines: letters that stand at two arrow heads."""
+def marks_of(sheet: Sheet, edges: Sequence[Edge], others: Sequence[Arrow], labels: Container[str], tolerance: float) -> list[Mark]:
+    """The ends of cutting-plane lines: letters that stand at two arrow heads, and those at any number that are a section's label."""
     letters = [word for word in words_of(sheet) if LETTER.fullmatch(word.text)]
     heads = list(heads_of(sheet, edges, others, tolerance)) if letters else []
     marks: dict[str, list[Mark]] = defaultdict(list)
@@ -127,7 +142,8 @@ def marks_of(sheet: Sheet, edges: Sequence[Edge], others: Sequence[Arrow], toler
         if head is not None and distance(head.box, word.place) <= NEAR * word.high + head.size:
             letter = word.text.rstrip("'′").upper()
             marks[letter].append(Mark(letter, word, head))
-    return [mark for its in marks.values() if len(its) == 2 and its[0].head != its[1].head for mark in its]
+    found = [mark for letter, its in marks.items() if letter in labels or len(its) == 2 and its[0].head != its[1].head for mark in its]
+    return [mark._replace(strokes=tuple(strokes_of(mark, edges, tolerance))) for mark in found]
 
 
 def is_loose(edge: Edge, end: Place, edges: Sequence[Edge], tolerance: float) -> bool:
@@ -161,7 +177,7 @@ def nearest_of(edge: Edge, box: Box) -> Place:
     return min(max((box[0] + box[2]) / 2, low_x), high_x), min(max((box[1] + box[3]) / 2, low_y), high_y)
 
 
-def without_marks(edges: list[Edge], marks: Sequence[Mark], tolerance: float) -> list[Edge]:
+def without_marks(edges: list[Edge], marks: Sequence[Mark]) -> list[Edge]:
     """The edges without the strokes of marks."""
-    gone = {id(edge) for mark in marks for edge in strokes_of(mark, edges, tolerance)}
+    gone = {id(edge) for mark in marks for edge in mark.strokes}
     return [edge for edge in edges if id(edge) not in gone]

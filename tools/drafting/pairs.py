@@ -123,7 +123,7 @@ def pair_of(runs: Sequence[Run], hints: Hints) -> Placed | None:
     others = [group for group in it.chosen if not any(group is view for view in views)]
     left = [*it.left, *beside(it.groups, others, title_blocks(it.around, views, hints.tolerance), hints)]
     its = with_a_side(way.views)
-    return Placed(its, is_mirrored(way.views), [noted.found(f"{way.angle}-angle views, {way}{without_told(its)}"), *left])
+    return Placed(its, is_mirrored(way.views), [noted.found(f"{way.angle}-angle views, {way}{without_told(its)}"), *left], sections=it.sections)
 
 
 def by_places(runs: Sequence[Run], hints: Hints) -> Placed:

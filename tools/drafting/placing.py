@@ -9,13 +9,13 @@ from typing import NamedTuple
 from . import noted
 from .advice import InTheWay
 from .controls import option
-from .drawing import FURTHER, VIEWS
+from .drawing import FURTHER, VIEWS, is_of_section
 from .groups import MOST_GROUPS, Group, frames, group_of, has_extent, holds, merged, pieces_of, title_blocks, united
 from .messages import Refused, many
 from .noted import Note, Thing
 from .panels import FRAMES
 from .reading import Box, Edge, Source, Unread
-from .sections import Why, together
+from .sections import NO_SECTION, Cut, TellSections, Why, among_named, together
 from .straight import Run
 
 # The words that name a view in the name of a layer or block.
@@ -26,8 +26,6 @@ NAMES = {
         ("REAR", "REAR BACK REARVIEW BACKVIEW RUECKANSICHT"), ("BOTTOM", "BOTTOM BOTTOMVIEW UNTERANSICHT"),
     ) for word in words.split()
 }
-# What comes before the option by which something is left out that makes a group a section.
-NO_SECTION = "; what makes no section is left out by"
 # What is said of groups beside the views.
 ONE = "stands a group that is no view of the same part where it stands, and whether it is one of another isn't told; it is left out by"
 SEVERAL = "stand groups that are no views of the same part where they stand, and whether they are of another isn't told; they are left out by"
@@ -39,16 +37,13 @@ MOST_CUTS = 20_000
 
 class Placed(NamedTuple):
     """The three views and those beside them, whether the part is seen in a mirror (the side view is the left one, and there is no right
-    one), what was found and left out, and whether names told the views, and not their places."""
+    one), what was found and left out, whether names told the views, and not their places, and the sections beside them."""
 
     views: dict[str, Group]
     mirrored: bool
     notes: list[Note]
     by_names: bool = False
-
-
-# What tells which of all groups are sections, by their numbers from 0 on, and why; it knows which ones the user leaves out.
-TellSections = Callable[[Sequence[Group], Sequence[Group]], dict[int, Why]]
+    sections: Sequence[Cut] = ()
 
 
 class Hints(NamedTuple):
@@ -85,6 +80,8 @@ def view_named(source: Source) -> str:
     if source.view:
         return source.view
     for name in (source.layer, source.block):
+        if is_of_section(name):
+            continue
         words = re.split(r"[^A-Z]+", name.upper())
         views = {NAMES[word] for word in words if word in NAMES}
         if len(views) == 1:
@@ -140,7 +137,7 @@ def by_names(views: dict[str, list[Run]], others: list[Run], hints: Hints) -> Pl
     tolerance = hints.tolerance
     named = {view: list(runs) for view, runs in views.items()}
     boxes = {view: group_of(its).box for view, its in named.items()}
-    taken, left = Counter[Thing](), Counter[Thing]()
+    taken, left, outside = Counter[Thing](), Counter[Thing](), list[Run]()
     for run in others:
         holding = [view for view, box in boxes.items() if holds(box, run.box(), tolerance)]
         layer = run.edge.source.layer
@@ -150,17 +147,19 @@ def by_names(views: dict[str, list[Run]], others: list[Run], hints: Hints) -> Pl
             named[holding[0]].append(run)
             taken[Thing(f"lines on layer {layer} taken to {holding[0]}, in whose box they lie", layer, view=holding[0])] += 1
         else:
-            left[Thing(f"lines on layer {layer}, outside the boxes of the named views", layer)] += 1
+            outside.append(run)
     groups = with_a_side({view: group_of(its) for view, its in named.items()})
     every = list(groups.values())
-    for number, why in hints.sections(every, every).items():
-        view, group = list(groups.items())[number]
-        raise InTheWay(f"{view}, {group}, is a section, since {why}: a section is no view. Draw {view} uncut too", why.sources, NO_SECTION)
+    sections = among_named(groups, outside, hints.sections, tolerance)
+    cut = {id(run) for section in sections for run in section.group.runs}
+    for run in outside:
+        if id(run) not in cut:
+            left[Thing(f"lines on layer {run.edge.source.layer}, outside the boxes of the named views", run.edge.source.layer)] += 1
     by_what = "the names of " + ("files" if every[0].first.file else "layers or blocks")
     by_what = "the directions in which they look" if every[0].first.is_drawn else by_what
     seen = noted.found(f"the views by {by_what}: {', '.join(sorted(named))}{without_told(groups)}")
     check_extents(groups, tolerance)
-    return Placed(groups, is_mirrored(named), [seen, *noted.counted("found", taken), *noted.counted("left out", left)], True)
+    return Placed(groups, is_mirrored(named), [seen, *noted.counted("found", taken), *noted.counted("left out", left)], True, sections)
 
 
 def extents_of(view: str, group: Group) -> list[tuple[int, str, float]]:
@@ -349,6 +348,10 @@ class Standing(NamedTuple):
     around: list[Group]
     left: list[Note]
 
+    @property
+    def sections(self) -> list[Cut]:
+        return [Cut(number + 1, self.groups[number], why) for number, why in sorted(self.cut.items())]
+
 
 def standing(runs: Sequence[Run], hints: Hints, least: int = 3) -> Standing:
     """What stands on a sheet, once what is round all the rest is left out, where so many groups or more are left."""
@@ -360,7 +363,6 @@ def standing(runs: Sequence[Run], hints: Hints, least: int = 3) -> Standing:
     asked = [group for number, group in enumerate(groups, 1) if number in hints.leave_out]
     left += [noted.left_out(f"group {number}, as asked: {group}") for number, group in enumerate(groups, 1) if number in hints.leave_out]
     cut = {number: why for number, why in hints.sections(groups, asked).items() if number + 1 not in hints.leave_out}
-    left += [noted.left_out(f"a section, group {number + 1}, since {why}; sections aren't read: {groups[number]}") for number, why in cut.items()]
     kept = [group for number, group in enumerate(groups, 1) if number not in hints.leave_out]
     chosen = [group for group in kept if not any(group is groups[number] for number in cut)]
     if not kept:
@@ -370,7 +372,8 @@ def standing(runs: Sequence[Run], hints: Hints, least: int = 3) -> Standing:
 
 def placed_by(runs: Sequence[Run], hints: Hints) -> Placed:
     """The views by their places."""
-    groups, kept, chosen, cut, around, left = standing(runs, hints)
+    it = standing(runs, hints)
+    groups, kept, chosen, cut, around, left = it
     ways = list(ways_of([group for group in chosen if has_extent(group, hints.tolerance)], hints))
     views = [group for group in chosen if not why_no_view(group, hints)]
     found = []
@@ -390,7 +393,7 @@ def placed_by(runs: Sequence[Run], hints: Hints) -> Placed:
     front, top = way.views["FRONT"], way.views["TOP"]
     sizes = f"{front.width:.9g} wide, {top.height:.9g} deep and {front.height:.9g} high"
     found.append(noted.found(f"{way.angle}-angle views, {way}: a part {sizes}"))
-    return Placed(with_a_side(way.views), is_mirrored(way.views), [*found, *left])
+    return Placed(with_a_side(way.views), is_mirrored(way.views), [*found, *left], sections=it.sections)
 
 
 def refuse_in_place(groups: Sequence[Group], kept: Sequence[Group], cut: dict[int, Why], hints: Hints) -> None:

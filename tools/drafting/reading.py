@@ -12,7 +12,7 @@ from . import curves, kinds
 from .drawing import UNITS, Place, entries_of, lines_of
 from .messages import Refused, many
 from .noted import Thing, Things
-from .styles import HATCHED, Choice, Look, Style, style_of
+from .styles import CUTTING, HATCHED, Choice, Look, Style, style_of
 
 if TYPE_CHECKING:
     from .documents import Page
@@ -102,11 +102,12 @@ class Kept(NamedTuple):
 
 
 class Arrow(NamedTuple):
-    """The head of a dimension's arrow: where its tip may be, and how long it is."""
+    """The head of an arrow: where its tip may be, and how long it is; and from where to where it points, where more than its corners tells."""
 
     tips: list[Place]
     size: float
     source: Source
+    points: tuple[Place, Place] | None = None
 
 
 class Around(NamedTuple):
@@ -130,6 +131,8 @@ class Sheet:
         self.texts: list[Place] = []
         self.scales: set[str] = set()
         self.arrows: list[Arrow] = []
+        # Centre lines, and lines on layers that are named for cutting-plane lines.
+        self.chains: list[Edge] = []
         self.kept: list[Kept] = []
         self.changed: Things = Counter()
         self.left: Things = Counter()
@@ -343,8 +346,9 @@ class Reader:
         name = insert.dxf.name
         place = insert.dxf.insert
         if self.arrows.is_acad_arrow(self.arrows.arrow_name(name)) or self.arrows.is_ezdxf_arrow(self.arrows.arrow_name(name)):
-            source = self.source(insert, "INSERT", look, around)
-            self.sheet.arrows.append(Arrow([(place.x, place.y)], abs(insert.dxf.get("xscale", 1.0)), source))
+            source, size, turned = self.source(insert, "INSERT", look, around), insert.dxf.get("xscale", 1.0), math.radians(insert.dxf.get("rotation", 0.0))
+            tip, tail = (place.x, place.y), (place.x - size * math.cos(turned), place.y - size * math.sin(turned))
+            self.sheet.arrows.append(Arrow([tip], abs(size), source, (tail, tip)))
             self.sheet.left[inserted(f"an arrow head {name}")] += 1
             return
         if name not in self.document.blocks:
@@ -386,6 +390,8 @@ class Reader:
         elif kind not in ("LINE", *POLYLINES, *CURVES):
             sheet.left[on_layer(kind, look.layer)] += 1
         elif style in (Style.CENTRE, Style.APART):
+            if style is Style.CENTRE or CUTTING.search(look.layer):
+                self.chain(entity, kind, look, source)
             what = "centre line, " if style is Style.CENTRE else ""
             sheet.left[on_layer(kind, look.layer, f", {what}{why}" if why else ", a centre line")] += 1
         elif style is Style.UNKNOWN:
@@ -396,12 +402,21 @@ class Reader:
             self.curve(entity, kind, style is Style.HIDDEN, look, source)
         elif kind == "LWPOLYLINE" and is_tapered(entity):
             ends = [(x, y) for x, y in entity.get_points("xy")]
-            sheet.arrows.append(Arrow(ends, math.dist(*ends), source))
+            points = (ends[0], ends[1]) if list(entity.get_points("se"))[0][1] == 0 else (ends[1], ends[0])
+            sheet.arrows.append(Arrow(ends, math.dist(*ends), source, points))
             sheet.unread.append(Unread("is an arrow head", box_of(entity), source))
         else:
             if why:
                 sheet.changed[on_layer(kind, look.layer, f" taken as {style.value}, {why}")] += 1
             self.lines(entity, kind, style is Style.HIDDEN, look, source)
+
+    def chain(self, entity: Any, kind: str, look: Look, source: Source) -> None:
+        """Keeps a straight centre line, which may be that of a cutting plane."""
+        parts = [entity] if kind == "LINE" else entity.virtual_entities() if kind in POLYLINES else []
+        for part in parts:
+            if part.dxftype() == "LINE":
+                start, end = part.dxf.start, part.dxf.end
+                self.sheet.chains.append(Edge(False, (start.x, start.y), (end.x, end.y), look.colour, source))
 
     def text(self, entity: Any) -> None:
         place = entity.dxf.get("insert")

@@ -7,13 +7,14 @@ import itertools
 import math
 import re
 from collections import Counter, defaultdict
-from collections.abc import Iterator, Sequence
+from collections.abc import Callable, Iterator, Mapping, Sequence
 from typing import NamedTuple
 
+from .advice import InTheWay
 from .controls import option
 from .cutting import Mark, Word, corners_of, distance, is_head, words_of
-from .messages import Refused
-from .groups import Group, holds
+from .messages import Refused, many
+from .groups import MOST_GROUPS, Group, holds, merged, pieces_of
 from .reading import Box, Kept, Sheet, Source, box_of
 from .straight import Run
 
@@ -32,6 +33,8 @@ LABEL = re.compile(rf"(?:(?P<word>{WORDS})\b[.:]?)?\s*(?:(?P<letter>{LETTER})\s*
 # How far from its group a label may stand, in heights of its letters; how much nearer than another one it has to be; and how small a
 # filled hatch is that is a dot, as a part of the group.
 NEAR, NEARER, DOT = 12, 1.3, 0.05
+# What comes before the option by which something is left out that makes a group a section.
+NO_SECTION = "; what makes no section is left out by"
 # How many slanted lines that end at no corner are a hatch.
 FEWEST_LINES = 3
 # With so many groups and no more each one is needed as a view.
@@ -39,10 +42,11 @@ FEWEST_VIEWS = 3
 
 
 class Why(NamedTuple):
-    """Why a group is a section, in words, and by which entities; none where lines of its own tell it."""
+    """Why a group is a section, in words, and by which entities; none where lines of its own tell it. And its labels, each with its letter."""
 
     text: str
     sources: tuple[Source, ...] = ()
+    labels: tuple[tuple[str, Word], ...] = ()
 
     def __str__(self) -> str:
         return self.text
@@ -51,7 +55,23 @@ class Why(NamedTuple):
 def together(reasons: Sequence[Why]) -> Why:
     """Several reasons as one."""
     sources = itertools.chain(*(why.sources for why in reasons)) if all(why.sources for why in reasons) else ()
-    return Why(" and ".join(dict.fromkeys(why.text for why in reasons)), tuple(sources))
+    labels = itertools.chain(*(why.labels for why in reasons))
+    return Why(" and ".join(dict.fromkeys(why.text for why in reasons)), tuple(sources), tuple(labels))
+
+
+class Cut(NamedTuple):
+    """A group that is a section: its number as `--leave-out` has it, from 1 on, or none where names tell the views; and why it is one."""
+
+    number: int | None
+    group: Group
+    why: Why
+
+    def __str__(self) -> str:
+        return f"group {self.number}, {self.group}" if self.number else str(self.group)
+
+
+# What tells which of all groups are sections, by their numbers from 0 on, and why; it knows which ones the user leaves out.
+TellSections = Callable[[Sequence[Group], Sequence[Group]], dict[int, Why]]
 
 
 class Sections(NamedTuple):
@@ -75,10 +95,14 @@ class Sections(NamedTuple):
 
     def by_hatch(self, groups: Sequence[Group]) -> Iterator[tuple[int, Why]]:
         """The groups that a hatch lies in."""
+        hatched: dict[int, dict[Source, None]] = defaultdict(dict)
         for box, is_filled, kept in self.hatches:
             number = holding(groups, box, kept, self.tolerance)
             if number is not None and not (is_filled and is_dot(box, groups[number])):
-                yield number, Why(f"{kept.source} lies in it", (kept.source,))
+                hatched[number][kept.source] = None
+        for number, sources in hatched.items():
+            more = f" and {many(len(sources) - 1, 'more hatch', 'more hatches')} lie" if len(sources) > 1 else " lies"
+            yield number, Why(f"{next(iter(sources))}{more} in it", tuple(sources))
         drawn: dict[int, list[Source]] = defaultdict(list)
         for box, kept in self.lines:
             if (number := holding(groups, box, kept, self.tolerance)) is not None:
@@ -90,7 +114,7 @@ class Sections(NamedTuple):
 
     def by_label(self, groups: Sequence[Group], found: dict[int, list[Why]]) -> Iterator[tuple[int, Why]]:
         """The groups that a label stands by: one with a hatch, else the nearest."""
-        for _, word in self.labels:
+        for letter, word in self.labels:
             away = sorted((distance(group.box, word.place), number) for number, group in enumerate(groups)
                           if group.first.view == word.source.view)
             near = [it for it in away if it[0] <= NEAR * word.high]
@@ -100,7 +124,7 @@ class Sections(NamedTuple):
             if not told and len(near) > 1 and near[1][0] < NEARER * near[0][0]:
                 raise Refused(f"{word.text!r}, {word.source}, says that a group of lines is a section, and which isn't told: "
                               f"{groups[near[0][1]]}, or {groups[near[1][1]]}; set it nearer to its group, or leave out its layer")
-            yield (told or near)[0][1], Why(f"{word.text!r} stands by it", (word.source,))
+            yield (told or near)[0][1], Why(f"{word.text!r} stands by it", (word.source,), ((letter, word),) if letter else ())
 
     def refuse_lost(self, groups: Sequence[Group], found: dict[int, list[Why]], left_out: Sequence[Group]) -> None:
         """Refuses a cutting-plane line whose section is none of the groups that are known as sections."""
@@ -172,10 +196,27 @@ def label_in(word: Word) -> str | None:
     return (found["letter"] or found["twice"] or "").rstrip("'′").upper()
 
 
+def among_named(views: Mapping[str, Group], outside: Sequence[Run], tell_sections: TellSections, tolerance: float) -> list[Cut]:
+    """The sections among the lines outside views that names tell; refused where one of these is a section."""
+    pieces = pieces_of(outside, tolerance)
+    beside = merged(pieces, tolerance) if len(pieces) <= MOST_GROUPS and not next(iter(views.values())).first.file else []
+    every, sections = [*views.values(), *beside], []
+    for number, why in sorted(tell_sections(every, every).items()):
+        if number < len(views):
+            view, group = list(views.items())[number]
+            raise InTheWay(f"{view}, {group}, is a section, since {why}: a section is no view. Draw {view} uncut too", why.sources, NO_SECTION)
+        sections.append(Cut(None, every[number], why))
+    return sections
+
+
+def labels_of(sheet: Sheet) -> list[tuple[str, Word]]:
+    """The labels of sections on a sheet, each with its letter."""
+    return [(letter, word) for word in words_of(sheet) if (letter := label_in(word)) is not None]
+
+
 def sections_of(sheet: Sheet, marks: Sequence[Mark], tolerance: float) -> Sections:
     """What of a sheet tells sections."""
     hatches = [it for kept in sheet.kept if kept.source.kind == "HATCH" and not is_head(kept.entity) for it in sides_of(kept)]
     lines = [(box, kept) for kept in sheet.kept if kept.source.kind == "LINE" and (box := box_of(kept.entity))]
-    labels = [(letter, word) for word in words_of(sheet) if (letter := label_in(word)) is not None]
-    return Sections(hatches, lines, labels, marks, tolerance)
+    return Sections(hatches, lines, labels_of(sheet), marks, tolerance)
 

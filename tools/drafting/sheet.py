@@ -16,7 +16,7 @@ from collections.abc import Iterator, Mapping, Sequence
 from fractions import Fraction
 from typing import Any, NamedTuple
 
-from . import documents, files, noted, pairs, scale
+from . import documents, files, noted, pairs, scale, section_views
 from .advice import Advisable
 from .controls import command, option, without
 from .cutting import Mark, marks_of, without_marks
@@ -28,7 +28,7 @@ from .noted import Note, Tell
 from .paper import Paper
 from .placing import Hints, Placed, by_names, extents_of, main_named, named_views, numbers_of, view_named
 from .reading import Edge, Sheet, Unread, read_sheet, where
-from .sections import sections_of
+from .sections import labels_of, sections_of
 from .straight import MOST_DECIMALS, At, Measure, Run, apart, fits, hidden_by, measure_of, runs_of
 from .styles import Style, choice_of
 from .unread import refuse_oblique, refuse_unread, way_of_style
@@ -46,7 +46,8 @@ MARGIN = 10
 class Drawn(NamedTuple):
     """A drawing of three layers, made of a sheet: its text, how many decimals it has, how it stands for the sheet, and the way back. Of a
     sheet with rounds also what is told of this reading of it, the drawings of the further ones, or why one has none; and why it is refused
-    unless some solid of a reading that changes more than to leave lines out, and isn't plain, is kept. Of a document of FreeCAD, its page."""
+    unless some solid of a reading that changes more than to leave lines out, and isn't plain, is kept. Of a document of FreeCAD, its page; and
+    whether it has layers of the sheet's sections."""
 
     text: str
     decimals: int
@@ -57,6 +58,7 @@ class Drawn(NamedTuple):
     refused: Refused | None = None
     is_plain: bool = True
     page: documents.Page | None = None
+    has_sections: bool = False
 
 
 class Alike(NamedTuple):
@@ -154,12 +156,15 @@ def hidden_within(whole: Sequence[Edge], visible: Sequence[Edge], tolerance: flo
 
 def without_annotations(sheet: Sheet, tolerance: float, tell: Tell) -> list[Mark]:
     """Takes the lines and arrow heads of exploded dimensions and of cutting-plane lines off a sheet; the ends of the latter."""
-    kept, heads = without_dimensions(sheet.edges, sheet.arrows, tolerance)
+    labels = {letter for letter, _ in labels_of(sheet)}
+    # By the letter of a section's label an arrow is none of a dimension, though it ends at a stroke as those do.
+    lettered = {mark.head.source for mark in marks_of(sheet, sheet.edges, (), labels, tolerance) if mark.letter in labels}
+    kept, heads = without_dimensions(sheet.edges, [arrow for arrow in sheet.arrows if arrow.source not in lettered], tolerance)
     if len(kept) < len(sheet.edges):
         lines = len(sheet.edges) - len(kept)
         tell(noted.left_out(f"{many(lines, 'line')} of exploded dimensions, with {many(len(heads), 'arrow head')}", lines))
-    marks = marks_of(sheet, kept, heads, tolerance)
-    sheet.edges = without_marks(kept, marks, tolerance)
+    marks = marks_of(sheet, kept, heads, labels, tolerance)
+    sheet.edges = without_marks(kept, marks)
     if marks:
         letters = ", ".join(dict.fromkeys(f"{mark.letter}-{mark.letter}" for mark in marks))
         lines = len(kept) - len(sheet.edges)
@@ -425,7 +430,8 @@ def draw_straight(path: str | None, sheet: Sheet, marks: Sequence[Mark], argumen
     placed = checked_views(path, sheet, sheet.edges, marks, arguments, tell)
     times = scale_in_use(path, sheet, placed, arguments, tell)
     measure = measured(path, placed, times, arguments, tell)
-    return drawn_views(path, sheet, placed, times, measure, arguments, tell)
+    layers = section_views.layers_of(sheet, marks, placed, times, measure, arguments, tell) if placed.sections else None
+    return drawn_views(path, sheet, placed, times, layers.measure if layers else measure, arguments, tell, layers=layers.strokes if layers else {})
 
 
 def checked_views(path: str | None, sheet: Sheet, edges: Sequence[Edge], marks: Sequence[Mark], arguments: argparse.Namespace, tell: Tell) -> Placed:
@@ -441,8 +447,9 @@ def checked_views(path: str | None, sheet: Sheet, edges: Sequence[Edge], marks: 
 
 def drawn_views(
     path: str | None, sheet: Sheet, placed: Placed, times: Fraction, measure: Measure, arguments: argparse.Namespace, tell: Tell, comments: str = "",
+    layers: Mapping[str, list[Stroke]] = {},
 ) -> Drawn:
-    """The drawing of the views at a scale, with some comments before it."""
+    """The drawing of the views at a scale and of layers of sections, with some comments before it."""
     views, under = strokes_of(placed, measure)
     if under:
         tell(noted.left_out(f"{many(under, 'hidden stretch', 'hidden stretches')} under visible ones, or joined", under))
@@ -450,14 +457,15 @@ def drawn_views(
         tell(noted.changed("the side view is the left one, so all views are drawn in a mirror, x turned round"))
     # Lengths by the scale are told as real ones: only what was needed to make them whole is told apart.
     origin = Origin(sheet.unit, measure.times / times, placed.mirrored)
-    lines = sum(map(len, views.values()))
+    lines = sum(map(len, (*views.values(), *layers.values())))
     hidden = sum(one[0] for strokes in views.values() for one in strokes)
     tell(noted.drawn(f"{many(lines, 'line')}, {hidden} of them hidden; recon reads it with {option('decimals', str(measure.decimals))}", lines))
     begins = {view: least_of(its) for view, its in views.items()}
     units = 10**measure.decimals
     paper = Paper(placed.views, begins, measure.times * units, origin.times * units, placed.mirrored, arguments.tolerance,
                   lambda source: where(source, path))
-    return Drawn(comments + written(views, measure.decimals, origin), measure.decimals, origin, paper, page=sheet.page)
+    text = comments + written({**views, **layers}, measure.decimals, origin)
+    return Drawn(text, measure.decimals, origin, paper, page=sheet.page, has_sections=bool(layers))
 
 
 def least_of(strokes: Sequence[Stroke]) -> tuple[int, int]:

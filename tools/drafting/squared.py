@@ -204,6 +204,8 @@ def read(path: str | None, read_sheet: Sheet, marks: Sequence[Mark], arguments: 
     placed = sheet.found_views(path, read_sheet, bare, marks, arguments, noted.tell_none)
     if missing := [view for view in VIEWS if view not in placed.views]:
         raise Refused(f"{missing[0]} isn't drawn, and a sheet with circles or arcs is read where all three main views are there: draw it too")
+    for cut in placed.sections:
+        tell(noted.left_out(f"a section, {cut}, since {cut.why}; of a sheet with rounds or oblique edges sections aren't read"))
     # What no reading changes is refused at once.
     refuse_unread(path, placed, read_sheet.unread, tolerance)
     round_ones = cones_in(placed, edges, rounds.rounds_of(kept, tolerance), tolerance)

@@ -28,10 +28,11 @@ class Look(NamedTuple):
 # Names of linetypes, of AutoCAD, of ISO 128 as AutoCAD names them, and in some languages; and words in names of layers.
 CENTRE = re.compile(r"cent(er|re)|iso(04|05|06|08|09|10|11|12|13|14|15)w|mitt|strichpunkt|achs|axis|axes|\baxe|dash_?-?dot|phantom|divide|border", re.I)
 HIDDEN = re.compile(r"hidden|dash|iso0[23]w|verdeckt|strich|cach[eé]|interrompu|occult|ocult|nascost|unsichtbar|invisible|tratteggi", re.I)
+CUTTING = re.compile(r"cutting|(section|schnitt|coupe|corte)[-_ ]?(line|linie|verlauf|plane|ebene)", re.I)
 HATCHED = re.compile(r"hatch|schraff|hachur|sombread|retino", re.I)
 APART = re.compile(
     r"border|frame|title|schriftfeld|rahmen|dimension|\bdims?\b|^dim|[-_]dim|bema(ss|ß)|text|notes?\b|defpoints|cadre|"
-    r"cartouche|annot|viewport|quot(e|a)|cota|cutting|(section|schnitt|coupe|corte)[-_ ]?(line|linie|verlauf|plane|ebene)|" + HATCHED.pattern,
+    r"cartouche|annot|viewport|quot(e|a)|cota|" + CUTTING.pattern + "|" + HATCHED.pattern,
     re.I,
 )
 

@@ -41,11 +41,12 @@ dimensions one_written_over | | !1 of 4 dimensions says another length
 dimensions one_written_over | --as-drawn | =part
 dimensions five_to_one | --scale 5:1 | =part
 section hatch for FRONT | | !in the place of FRONT stands group .* Draw FRONT uncut too
-section hatch beside | | =part
+section hatch beside | | !it has no label A-A, which tells its plane.*--leave-out group=4
+section hatch beside | --leave-out group=4 | =part
 section label SECTION A-A for SIDE | | !in the place of SIDE .* stands by it
-section label_of_two_lines beside | | =part
+section label_of_two_lines beside | | !no view has a cutting-plane line with arrows and the letter A.*--leave-out group=4
 section hatch_lines for FRONT | | !hatch lines lie in it
-section solid beside | | =part
+section arrow solid beside | | =0 solid
 section layer Coupe for FRONT | | !on the layer or in the block Coupe
 frame block | | =part
 frame zones | | =part
@@ -150,7 +151,7 @@ class Maker:
 class Forms(unittest.TestCase):
     def test_each_is_answered_right_or_refused_with_its_cause(self) -> None:
         maker, rows = Maker(), forms()
-        self.assertEqual(len(rows), 35)
+        self.assertEqual(len(rows), 36)
         with tempfile.TemporaryDirectory() as folder:
             for form in rows:
                 with self.subTest(form.name, words=form.words):

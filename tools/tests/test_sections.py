@@ -125,7 +125,7 @@ TELLS: dict[str, tuple[Tells, str]] = {
     **{f"label {text}": (lambda it, text=text: it.label(text), "stands by it") for text in (  # type: ignore[misc]
         "SECTION A-A", "A-A", "Section B", "SCHNITT A - A", "COUPE A-A", "SEZIONE A-A", "CORTE A–A", "Sección A-A", "SECTION A-A (2:1)", "SECTION AA")},
     "label_of_two_lines": (lambda it: it.label("SECTION A-A\\PSCALE 1:1", True), "stands by it"),
-    **{head: (both(lambda it, head=head: it.cutting_plane(head), Drawing.label), "'SECTION A-A' stands by it") for head in HEADS},  # type: ignore[misc]
+    **{f"arrow {head}": (both(lambda it, head=head: it.cutting_plane(head), Drawing.label), "'SECTION A-A' stands by it") for head in HEADS},  # type: ignore[misc]
     "all": (both(Drawing.hatch, Drawing.label, Drawing.cutting_plane), "HATCH .* and 'SECTION A-A' stands by it"),
 }
 
@@ -167,10 +167,18 @@ class Sections(unittest.TestCase):
                     self.drawn(drawn_with(cut, False, tells))
 
     def test_beside_the_views(self) -> None:
+        """What has a label and a cutting-plane line is read; all else is refused with the way to leave it out, which was tried."""
         for name, (tells, words) in TELLS.items():
+            drawing = drawn_with("FRONT", True, tells)
             with self.subTest(name):
-                strokes, said = self.drawn(drawn_with("FRONT", True, tells))
-                self.assertRegex("\n".join(said), f"left out: a section, group .*{words}.*; sections aren't read")
+                if name.startswith("arrow "):
+                    strokes, said = self.drawn(drawing)
+                    self.assertRegex("\n".join(said), "found: SECTION A-A is what FRONT shows behind y = 2; no hatch tells its area: layer SECTION_FRONT_2")
+                    self.assertEqual(strokes, self.own)
+                    continue
+                with self.assertRaisesRegex(Refused, f"^section.*{words}.*, isn't read: .*; without it the views are read by --leave-out group=4$"):
+                    self.drawn(drawing)
+                strokes, _ = self.drawn(drawing, "--leave-out", "group=4")
                 self.assertEqual(strokes, self.own)
 
     def test_by_its_layer(self) -> None:

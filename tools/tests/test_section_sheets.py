@@ -1,0 +1,295 @@
+"""Section views of sheets become layers that recon reads: as the slow writer draws them from the definition, or they are refused by what they are."""
+import itertools
+import pathlib
+import random
+import re
+import tempfile
+import unittest
+from collections.abc import Iterable
+
+from drafting import asking, command, ruled_out, sheet, solve
+from drafting.drawing import lines_within
+from drafting.messages import Refused
+from drafting.noted import tell_none
+from drafting.panels import FRAMES, Cell
+from drafting.section_layers import strokes_in_all
+
+from .cut_solids import Shown, area_of, planes_through, section_of, unit_cells
+from .made import pierced, random_solid
+from .support import in_words, needs_long, needs_module, needs_program
+from .test_section_layers import cells_of
+
+try:
+    from . import section_sheets
+    from .section_sheets import PART, Form, Maker, form_of
+except ImportError:
+    section_sheets = None  # type: ignore[assignment]
+
+PARSER = command.parser_of(command.commands())
+KINDS = {"SECTION": section_of, "AREA": area_of}
+MIRRORED = {"SIDE": "LEFT", "LEFT": "SIDE"}
+# How many random sheets there are, in the gate and with --long; and of how many solids of the views alone at most.
+SHEETS, MANY, MOST_SOLIDS = 25, 150, 200
+
+# A form, and its two layers: `both`, or the one that is told; the drawing's solid is the part then. Or words of a refusal behind `!`.
+FORMS = """\
+looks=FRONT | both
+looks=REAR | both
+looks=SIDE plane=4 | both
+looks=LEFT plane=4 where=FRONT | both
+looks=TOP plane=7 where=FRONT | both
+looks=BOTTOM plane=2 where=SIDE | both
+looks=FRONT where=SIDE | both
+angle=first left=1 | both
+angle=first left=1 looks=LEFT plane=4 where=FRONT | both
+angle=first left=1 looks=TOP plane=7 where=SIDE | both
+left=1 | both
+left=1 looks=LEFT plane=4 where=FRONT | both
+left=1 looks=SIDE plane=11 where=TOP | both
+angle=first looks=BOTTOM plane=2 where=SIDE | both
+names=1 layer=CUTS | both
+arrow=insert | both
+arrow=leader | both
+arrow=open | both
+arrow=hatch | both
+arrow=polyline | both
+ends=iso | both
+ends=iso arrow=open | both
+ends=iso arrow=insert looks=LEFT plane=4 where=FRONT | both
+line=PHANTOM | both
+line=DASHDOT | both
+line=CUT | both
+line=ACAD_ISO04W100 | both
+line=none | both
+hatch=edges | both
+hatch=many | both
+hatch=solid | both
+hatch=lines | both
+hatch=layer | both
+hatch=none | SECTION
+lines=outline | AREA
+lines=hidden | both
+label=A-A | both
+label=A_-_A | both
+label=SCHNITT_A-A | both
+label=COUPE_A–A | both
+label=Sezione_A-A | both
+label=CORTE_A-A | both
+label=SECTION_AA | both
+letter=B label=SECTION_B-B | both
+letter=Ж label=Ж-Ж | both
+wrong=primed | both
+label=SECTION_A-A_(2:1) scale=2 | both
+label=SECTION_A-A_(1:2) scale=0.5 | both
+turns=1 looks=LEFT plane=4 where=TOP at=beside | both
+turns=3 looks=SIDE plane=4 where=TOP at=beside | both
+at=above | both
+turns=2 looks=REAR at=below | both
+layer=SCHNITT_A | both
+plane=5 | !its plane lies upon a face of the part, at y = 5
+wrong=bent line=CENTER | !an offset section, of several planes
+wrong=offset | !its line has its ends at y = .*: an offset section
+wrong=half | !its line ends within TOP: a half section
+wrong=one_end | !the letter A stands at 1 arrow, not at two
+wrong=opposite | !its arrows point in opposite ways
+wrong=turned_end | !its arrows go different ways, one level and one upright: an aligned or half section
+wrong=jog | !its line is bent at .*: an offset, aligned or half section
+wrong=oblique | !is neither level nor upright, or doesn't say whereto: an oblique or aligned section
+wrong=beside | !its line goes through no view, so it cuts nothing
+wrong=reversed | !in a mirror or upside down alone: its arrows point the wrong way, or it stands upside down
+turns=2 | !in a mirror or upside down alone: its arrows point the wrong way, or it stands upside down
+scale=2 | !another scale, which its label would have to say
+hatch=half | !its hatch ends at .*, where no line is: a half or broken-out section
+hatch=patterns | !its hatches are of several patterns, as those of several parts are
+hatch=bent | !has a bent side
+label=none | !it has no label A-A, which tells its plane: a half, broken-out, revolved or removed section
+label=none hatch=none | !a cutting-plane line A-A is drawn at group 2, .* which group is its section isn't told
+where=none | !no view has a cutting-plane line with arrows and the letter A
+letter=B | !no view has a cutting-plane line with arrows and the letter A
+label=none layer=SCHNITT hatch=none where=none | !it has no label A-A
+at=FRONT | !in the place of FRONT stands group .*, which is a section, .* Draw FRONT uncut too
+looks=SIDE plane=4 at=SIDE | !in the place of SIDE stands group .*, which is a section, .* Draw SIDE uncut too
+"""
+
+
+def in_a_mirror(cells: Iterable[Cell]) -> set[Cell]:
+    its = set(cells)
+    width = max(x for x, _, _ in its) + min(x for x, _, _ in its)
+    return {(width - x, y, z) for x, y, z in its}
+
+
+def shown_in(lines: list[str]) -> dict[str, Shown]:
+    """What the layers of sections show, in whole units."""
+    return {name: section_sheets.shown_of_strokes((*start, *end) for _, start, end in its)
+            for name, its in strokes_in_all(lines, 0, True).items() if "_" in name}
+
+
+def wanted_of(cells: Iterable[Cell], looks: str, plane: int, kinds: Iterable[str], is_mirrored: bool) -> dict[str, Shown]:
+    """What these layers have to show; of a sheet whose side view is the left one those of the part in a mirror."""
+    its = set(cells)
+    if is_mirrored:
+        plane = max(x for x, _, _ in its) + 1 - plane if FRAMES[looks].sight == 0 else plane
+        looks, its = MIRRORED.get(looks, looks), in_a_mirror(its)
+    return {f"{kind}_{looks}_{plane}": KINDS[kind](its, looks, plane) for kind in kinds}
+
+
+@needs_module("ezdxf", "python3-ezdxf")
+@needs_program()
+class SectionSheets(unittest.TestCase):
+    def setUp(self) -> None:
+        folder = tempfile.TemporaryDirectory()
+        self.addCleanup(folder.cleanup)
+        self.file = pathlib.Path(folder.name) / "sheet.dxf"
+
+    def asked(self, *words: str) -> tuple[asking.Asked, str]:
+        """What comes of the sheet, and what is said."""
+        said: list[str] = []
+        return asking.ask(str(self.file), PARSER.parse_args(["solve", str(self.file), *words]), in_words(said)), "\n".join(said)
+
+    def drawn(self) -> tuple[sheet.Drawn, str]:
+        """What the sheet is drawn as, and what is said."""
+        said: list[str] = []
+        return sheet.draw(str(self.file), PARSER.parse_args(["sheet", str(self.file)]), in_words(said)), "\n".join(said)
+
+    def test_forms(self) -> None:
+        for row in FORMS.splitlines():
+            words, comes = (cell.strip() for cell in row.split("|", 1))
+            form = form_of(words)
+            section_sheets.made(form, self.file)
+            with self.subTest(words):
+                if comes.startswith("!"):
+                    with self.assertRaisesRegex(Refused, comes[1:]):
+                        self.drawn()
+                else:
+                    self.one(form, tuple(KINDS) if comes == "both" else (comes,))
+
+    def one(self, form: "Form", kinds: tuple[str, ...]) -> None:
+        """A sheet with a section that is read: its layers are those of the definition, and told."""
+        drawn, said = self.drawn()
+        wanted = wanted_of(PART, form.looks, form.plane, kinds, drawn.origin.mirrored)
+        self.assertEqual(shown_in(lines_within(drawn.text.encode())), wanted, said)
+        self.assertRegex(said, f"found: SECTION {form.letter}-{form.letter} is what {form.looks} shows behind [xyz] = {form.plane}.*{', '.join(wanted)}")
+
+    def test_answers(self) -> None:
+        """The part is the one solid that has the views and the sections, also where the sheet shows it in a mirror."""
+        for words in ("looks=REAR", "left=1 looks=LEFT plane=4 where=FRONT", "looks=TOP plane=7 where=SIDE hatch=lines"):
+            section_sheets.made(form_of(words), self.file)
+            with self.subTest(words):
+                asked, said = self.asked()
+                self.assertEqual([cells_of(solid) for solid in asked.answer().solids], [PART], said)
+                self.assertIn("found: sections of the sheet, which are read as its views are", said)
+
+    def test_no_solid_has_the_sections(self) -> None:
+        """An uncut rib, and a section whose place tells no wrong arrows: it is said that the views alone have a solid."""
+        plate = section_sheets.box(0, 0, 0, 12, 10, 3) | section_sheets.box(0, 7, 3, 12, 10, 8)
+        rib = section_sheets.box(5, 2, 3, 7, 7, 6)
+        stepped = section_sheets.box(0, 0, 0, 12, 10, 3) | section_sheets.box(4, 0, 3, 6, 4, 8) | section_sheets.box(6, 6, 3, 8, 10, 8)
+        for cells, uncut, words in ((plate | rib, rib, "looks=LEFT plane=6 where=TOP"), (stepped, (), "looks=LEFT plane=5 where=TOP wrong=reversed lines=outline")):
+            maker, form = Maker(cells), form_of(words)
+            maker.draw_views()
+            maker.cutting_line(form)
+            maker.section(form, uncut)
+            maker.doc.saveas(self.file)
+            with self.subTest(words):
+                arguments = PARSER.parse_args(["solve", str(self.file)])
+                asked = asking.ask(str(self.file), arguments, tell_none)
+                self.assertEqual(solve.told(asked, 1), ["No solid has these views: the search was whole."])
+                self.assertEqual(ruled_out.told(asked, arguments)[0], "The views alone have 1 solid: what the sections show rules it out.")
+
+    def test_two_sections(self) -> None:
+        maker = Maker(PART)
+        maker.draw_views()
+        forms = (form_of("plane=4"), form_of("looks=LEFT plane=4 where=FRONT letter=B label=SECTION_B-B"))
+        for form in forms:
+            maker.cutting_line(form)
+            maker.section(form)
+        maker.doc.saveas(self.file)
+        drawn, said = self.drawn()
+        wanted = {name: shown for it in forms for name, shown in wanted_of(PART, it.looks, it.plane, KINDS, False).items()}
+        self.assertEqual(shown_in(lines_within(drawn.text.encode())), wanted, said)
+        maker.section(forms[0])
+        maker.doc.saveas(self.file)
+        with self.assertRaisesRegex(Refused, "two groups have the label A-A"):
+            self.drawn()
+
+    def test_a_plane_that_needs_decimals(self) -> None:
+        """It lies within a gap of one unit at the part's end, where no whole coordinate is: what it shows is what the part behind it does, whole."""
+        cells = section_sheets.box(0, 0, 0, 4, 3, 3) - section_sheets.box(1, 0, 0, 2, 1, 3) - section_sheets.box(2, 1, 1, 4, 2, 3)
+        for plane, looks, told, decimals in ((0.4, "FRONT", "0.4", 1), (0.4, "REAR", "1", 0), (1.5, "FRONT", "1", 0), (1.5, "REAR", "2", 0),
+                                             (2.6, "FRONT", "2", 0), (2.6, "REAR", "2.6", 1)):
+            maker = Maker(cells)
+            maker.draw_views()
+            form = form_of(f"looks={looks} plane={int(plane) + (looks == 'REAR')}")
+            maker.cutting_line(form, plane)
+            maker.section(form)
+            maker.doc.saveas(self.file)
+            with self.subTest(looks, plane=plane):
+                drawn, said = self.drawn()
+                self.assertEqual(drawn.decimals, decimals, said)
+                self.assertRegex(said, rf"shows behind y = {told}[:;]")
+
+    def random_sheets(self, count: int, seed: int) -> int:
+        """How many of so many random sheets have sections that leave fewer solids than their views do."""
+        rng, fewer, tried = random.Random(seed), 0, 0
+        while tried < count:
+            cells = random_part(rng)
+            forms = [form for form in random_forms(rng, cells)]
+            if not forms:
+                continue
+            maker = Maker(cells, *rng.choice((("third", False), ("third", False), ("first", True), ("third", True), ("first", False))))
+            maker.draw_views()
+            maker.doc.saveas(self.file)
+            views = self.asked("--solids", str(MOST_SOLIDS))[0]
+            if views.run.status or len(views.answer().solids) == 1 and rng.random() < 0.7:
+                continue
+            for form in forms:
+                maker.cutting_line(form)
+                maker.section(form)
+            maker.doc.saveas(self.file)
+            tried += 1
+            fewer += self.checked(cells, forms, [cells_of(solid) for solid in views.answer().solids])
+        return fewer
+
+    def checked(self, cells: set[Cell], forms: "list[Form]", solids: list[set[Cell]]) -> bool:
+        """A sheet whose views alone have these solids: just those are left that show its sections, as the slow writer draws them."""
+        asked, said = self.asked()
+        left = [cells_of(solid) for solid in asked.answer().solids]
+        told = {letter: names.split(", ") for letter, names in re.findall(r"SECTION (.)-. is .*: layers? (.*)", said)}
+        self.assertEqual(set(told), {form.letter for form in forms}, said)
+        self.assertEqual(set(itertools.chain(*told.values())), set(shown_in(asked.lines)), said)
+        kinds = [(KINDS[name.partition("_")[0]], form.looks, form.plane) for form in forms for name in told[form.letter]]
+        fitting = [it for it in solids if all(show(it, looks, plane) == show(cells, looks, plane) for show, looks, plane in kinds)]
+        self.assertIn(cells, left, said)
+        self.assertEqual(left, fitting, said)
+        return len(left) < len(solids)
+
+    def test_random_sheets(self) -> None:
+        self.assertGreater(self.random_sheets(SHEETS, 79), SHEETS // 8)
+
+    @needs_long()
+    def test_many_random_sheets(self) -> None:
+        self.assertGreater(self.random_sheets(MANY, 80), MANY // 8)
+
+
+def random_part(rng: random.Random) -> set[Cell]:
+    """A part whose gaps are two units or four wide, so that planes at odd coordinates lie within them."""
+    grid = random_solid(rng, rng.randint(2, 4), rng.randint(1, 4)) if rng.random() < 0.3 else pierced(rng)
+    cuts = [[0, *itertools.accumulate(rng.choice((2, 2, 4)) for _ in range(max(cell[axis] for cell in grid) + 1))] for axis in range(3)]
+    cells = unit_cells(grid, cuts)
+    least = [min(cell[axis] for cell in cells) for axis in range(3)]
+    return {(x - least[0], y - least[1], z - least[2]) for x, y, z in cells}
+
+
+def random_forms(rng: random.Random, cells: set[Cell]) -> "list[Form]":
+    """One section or two, each of a plane that lies upon no face, drawn in some form."""
+    forms = []
+    for letter in rng.sample("AB", rng.randint(1, 2)):
+        looks = rng.choice(list(FRAMES))
+        axis = FRAMES[looks].sight
+        where = rng.choice([view for view in ("FRONT", "TOP", "SIDE") if FRAMES[view].sight != axis])
+        planes = [it for it in planes_through(cells, looks) if it % 2]
+        words = f"looks={looks} where={where} plane={rng.choice(planes)} letter={letter} label=SECTION_{letter}-{letter}"
+        arrows, hatches = ("solid", "insert", "leader", "open", "hatch", "polyline"), ("one", "many", "edges", "solid", "lines", "layer", "none")
+        words += f" arrow={rng.choice(arrows)} hatch={rng.choice(hatches)} ends={rng.choice(('asme', 'iso'))} at=apart"
+        forms.append(form_of(words + f" line={rng.choice(('CENTER', 'PHANTOM', 'DASHDOT', 'ACAD_ISO04W100', 'none'))}"))
+    return forms
