@@ -176,7 +176,7 @@ def ask(path: str | None, arguments: argparse.Namespace, tell: Tell, command: tu
 
 def is_said_of_sheet(arguments: argparse.Namespace) -> bool:
     """Whether the user says what only a sheet is read by."""
-    said = any(getattr(arguments, name) for name in ("hidden", "visible", "leave_out", "visible_only", "pairs", "angle", "as_drawn"))
+    said = any(getattr(arguments, name) for name in ("hidden", "visible", "leave_out", "visible_only", "pairs", "angle", "unit", "as_drawn"))
     return said or arguments.scale not in (None, "1:1")
 
 

@@ -15,7 +15,7 @@ BEGINS, INSIDE = b"PK\x03\x04", "Document.xml"
 # A page that was taken of a document before, in a folder of its own: `anew.py` says what it has.
 TAKEN = "taken_page.json"
 # What is said of sheets, and what a page tells by itself.
-SAID = ("hidden", "visible", "leave_out", "visible_only", "all_visible", "angle", "scale", "as_drawn", "pairs")
+SAID = ("hidden", "visible", "leave_out", "visible_only", "all_visible", "angle", "scale", "unit", "as_drawn", "pairs")
 
 
 class View(NamedTuple):

@@ -21,7 +21,7 @@ from .advice import Advisable
 from .controls import command, option, without
 from .cutting import Mark, marks_of, without_marks
 from .dimensions import without_dimensions
-from .drawing import VIEWS, Origin, Stroke, places_of, written
+from .drawing import MILLIMETRES, VIEWS, Origin, Stroke, places_of, written
 from .groups import Group
 from .messages import Refused, many, say, write_result
 from .noted import Note, Tell
@@ -83,6 +83,7 @@ def add_options(parser: argparse.ArgumentParser) -> None:
     group.add_argument("--sheet-decimals", type=int, choices=range(7), metavar="D", help="how many decimals lengths have (else found)")
     group.add_argument("--reading", type=int, metavar="N", help="of a sheet whose lines may be tangent edges the N-th reading alone")
     group.add_argument("--scale", metavar="A:B", help="drawn to real lengths: 1:2 is half as large as the part (else 1:1)")
+    group.add_argument("--unit", choices=list(MILLIMETRES), help="lengths are in this unit, whatever the file tells")
     group.add_argument("--as-drawn", action="store_true", help="lengths are as drawn, at this scale, whatever dimensions say")
     group.add_argument("--pairs", action="store_true", help="NAME.visible.dxf is NAME.dxf without hidden lines, as --visible-only")
     group.add_argument("--sheet-page", metavar="NAME", help="of a document of FreeCAD (.FCStd) with several pages, which one")
@@ -92,7 +93,7 @@ def add_options(parser: argparse.ArgumentParser) -> None:
 def words_of(arguments: argparse.Namespace) -> list[str]:
     """The options of sheets as they were given, for another command."""
     words = [f"--{name.replace('_', '-')}={text}" for name in ("hidden", "visible", "leave_out") for text in getattr(arguments, name)]
-    for name in ("visible_only", "angle", "sheet_decimals", "reading", "scale", "sheet_page", "part"):
+    for name in ("visible_only", "angle", "sheet_decimals", "reading", "scale", "unit", "sheet_page", "part"):
         if getattr(arguments, name) is not None:
             words.append(f"--{name.replace('_', '-')}={getattr(arguments, name)}")
     words += [f"--tolerance={arguments.tolerance!r}"] if arguments.tolerance != TOLERANCE else []
@@ -118,6 +119,15 @@ def scale_of(text: str) -> Fraction:
     return scale
 
 
+def unit_of(told: str, said: str | None, tell: Tell) -> str:
+    """The unit of a sheet's lengths: what the user says, else what the file tells."""
+    if said and said != told:
+        tell(noted.changed(f"lengths are in {said}, as is said, and not in {told}" if told else f"lengths are in {said}, as is said"))
+    else:
+        tell(noted.found(f"lengths in {told}" if told else f"no unit of length is told, and none said by {option('unit')}"))
+    return said or told
+
+
 # ---- the edges
 
 def edges_of(path: str | None, arguments: argparse.Namespace, tell: Tell) -> tuple[Sheet, list[Mark]]:
@@ -133,7 +143,9 @@ def edges_of(path: str | None, arguments: argparse.Namespace, tell: Tell) -> tup
     whole = files.together(sheets)
     for note in (*noted.counted("changed", whole.changed), *noted.counted("left out", whole.left)):
         tell(note)
-    tell(noted.found(f"lengths in {whole.unit}" if whole.unit else "no unit of length is told"))
+    unit = unit_of(whole.unit, arguments.unit, tell)
+    for sheet in sheets:
+        sheet.unit = unit
     if len(whole.edges) > MOST_EDGES:
         raise Refused(f"{len(whole.edges):,} lines, more than {MOST_EDGES:,}")
     if visible := files.visible_only(arguments, path):

@@ -150,7 +150,7 @@ def run(arguments: argparse.Namespace) -> int:
         raise Refused(f"there is no solid {arguments.only}: {many(made.listed, 'solid')} of this drawing")
     if made.unit != "mm":
         say("draft step: " + (f"lengths in the files are millimetres, {float(MILLIMETRES[made.unit]):.9g} to the {made.unit}" if made.unit else
-                              "no unit of length is told: millimetres are taken"))
+                              f"no unit of length is told: millimetres are taken; {option('unit')} says another one of a sheet"))
     rows = [made.head]
     path = pathlib.Path(arguments.shape)
     for number, one in made.shapes.items():

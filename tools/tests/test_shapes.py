@@ -92,6 +92,17 @@ class Shapes(unittest.TestCase):
             box = re.findall(r"volume \d+", solved(back.out.encode(), 1))
             self.assertEqual(box, [f"volume {41 * 254**3}"])
 
+    def test_the_unit_of_a_sheet_that_tells_none_is_said(self) -> None:
+        with tempfile.TemporaryDirectory() as folder:
+            sheet = pathlib.Path(folder, "sheet.dxf")
+            text = (EXAMPLES / "sheets" / "clevis_sheet.dxf").read_text(encoding="cp1252")
+            sheet.write_text(re.sub(r"\$INSUNITS\n +70\n *1\n", "$LUNITS\n 70\n 2\n", text, count=1), encoding="cp1252")
+            for words, unit, times in (([], "", 10), (["--unit", "in"], "25.4 to the in", 254), (["--unit", "cm"], "10 to the cm", 100)):
+                ended = draft("step", sheet, f"{folder}/clevis.step", *words)
+                self.assertEqual((ended.status, unit in ended.said), (0, True), ended.said)
+                back = draft("views", "--decimals", 1, f"{folder}/clevis_1.step")
+                self.assertEqual(re.findall(r"volume \d+", solved(back.out.encode(), 1)), [f"volume {41 * times**3}"])
+
     def test_parts_that_touch_along_an_edge_are_kept_apart(self) -> None:
         with tempfile.TemporaryDirectory() as folder:
             ended = draft("step", EXAMPLES / "two_cubes_along_an_edge.dxf", f"{folder}/two.brep")
@@ -101,7 +112,7 @@ class Shapes(unittest.TestCase):
         with tempfile.TemporaryDirectory() as folder:
             text = (EXAMPLES / "clevis.txt").read_bytes()
             ended = draft("step", EXAMPLES / "clevis.dxf", f"{folder}/clevis.step", "--answer", "-", data=text)
-            self.assertEqual((ended.status, ended.said), (0, "draft step: no unit of length is told: millimetres are taken\n"))
+            self.assertEqual((ended.status, ended.said), (0, "draft step: no unit of length is told: millimetres are taken; --unit says another one of a sheet\n"))
             self.assertTrue(pathlib.Path(folder, "clevis_1.step").exists())
 
     def test_a_drawing_of_boxes(self) -> None:
