@@ -97,7 +97,8 @@ class Shapes(unittest.TestCase):
             sheet = pathlib.Path(folder, "sheet.dxf")
             text = (EXAMPLES / "sheets" / "clevis_sheet.dxf").read_text(encoding="cp1252")
             sheet.write_text(re.sub(r"\$INSUNITS\n +70\n *1\n", "$LUNITS\n 70\n 2\n", text, count=1), encoding="cp1252")
-            for words, unit, times in (([], "", 10), (["--unit", "in"], "25.4 to the in", 254), (["--unit", "cm"], "10 to the cm", 100)):
+            cases: list[tuple[list[str], str, int]] = [([], "", 10), (["--unit", "in"], "25.4 to the in", 254), (["--unit", "cm"], "10 to the cm", 100)]
+            for words, unit, times in cases:
                 ended = draft("step", sheet, f"{folder}/clevis.step", *words)
                 self.assertEqual((ended.status, unit in ended.said), (0, True), ended.said)
                 back = draft("views", "--decimals", 1, f"{folder}/clevis_1.step")

@@ -71,6 +71,7 @@ impl Searched {
     /// How the search of it ended.
     pub fn ended(&self) -> &Ended
         ensures same { result.now ≡ self.now.ended }
+        ensures few { HasFewSolids self.now }
     {
         &self.ended
     }
