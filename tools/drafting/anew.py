@@ -54,7 +54,7 @@ class Lines:
         elif (bow := curves.through(it.places)):
             self.arcs.append(Arc(it.hidden, *bow, source._replace(kind="curve")))
         else:
-            self.unread.append(Unread(f"is a {kind}", box_of(it.places), source._replace(kind="curve")))
+            self.unread.append(Unread(curves.neither(it.places), box_of(it.places), source._replace(kind="curve")))
 
     @property
     def box(self) -> Box:

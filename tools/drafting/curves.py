@@ -94,6 +94,16 @@ def straight_ends(places: Sequence[Place]) -> Line | None:
     return None
 
 
+def neither(places: Sequence[Place]) -> str:
+    """Why a curve along some places, if they can be told, isn't taken."""
+    text = "is neither a level or upright line nor an arc"
+    if not places:
+        return text
+    (a, b), (c, d) = ((round(it, 4) + 0.0 for it in place[:2]) for place in (places[0], places[-1]))
+    ends = f", from {a:g}, {b:g} to {c:g}, {d:g}" if (a, b) != (c, d) else ""
+    return f"{text}{ends}: where holes cross, or a cylinder is slanted, curves are of this kind"
+
+
 # ---- circles through places
 
 def centre_of(a: Place, b: Place, c: Place) -> Place | None:

@@ -442,7 +442,7 @@ class Reader:
             self.sheet.changed[Thing(f"straight {kind} on layer {look.layer} taken as a line", look.layer, kind)] += 1
             self.sheet.edges.append(Edge(hidden, *taken, look.colour, source))
         else:
-            self.sheet.unread.append(Unread("is no straight line", box_of(entity), source))
+            self.sheet.unread.append(Unread(curves.neither(curves.places_of(entity)), box_of(entity), source))
 
     def lines(self, entity: Any, kind: str, hidden: bool, look: Look, source: Source) -> None:
         parts = [entity]

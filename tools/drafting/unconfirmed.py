@@ -49,8 +49,8 @@ def suspects(views: Views) -> list[Suspect]:
 
 def outlines(view: str, one: Round, views: Views) -> Iterator[Outline]:
     """The outlines that a round has where it stands free."""
-    noise, sight, lines = OF_ONE * views.tolerance, FRAMES[view].sight, {other: within(views, other) for other in VIEWS}
-    for side in (it for it in sides_of(views, view, one, lines) if it.view in VIEWS) if all(it in views.boxes for it in VIEWS) else ():
+    noise, sight, lines = OF_ONE * views.tolerance, FRAMES[view].sight, {other: within(views, other) for other in views.boxes}
+    for side in (it for it in sides_of(views, view, one, lines) if it.view in VIEWS):
         axis = shared_axis(view, side.view)
         assert axis is not None
         for corner in sorted({quarter.corner[0 if axis == FRAMES[view].right else 1] for quarter in one.quarters}):

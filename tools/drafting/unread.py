@@ -52,7 +52,7 @@ def refused(text: str, it: Unread, group: Group, placed: Placed, tolerance: floa
     """The refusal of what can't be read in a group."""
     if it.linetype:
         return Styleless(f"{text}: {way_of_style(it)}", it.source)
-    text += ": recon reads straight level and upright edges alone, and curves of this kind aren't read"
+    text += "; recon reads level and upright lines and arcs alone"
     if it.box and any(on_border(it.box, end, tolerance) for run in group.runs for end in (run.edge.start, run.edge.end)):
         return Styleless(f"{text}; lines of the view end at it", it.source)
     kept = [run.edge.source for one in placed.views.values() for run in one.runs]

@@ -116,8 +116,8 @@ def in_front(add: Callable[[Any, float, float], object]) -> Callable[[Any], obje
 
 
 ROWS = (
-    Row("round_closes_front", rounded("FRONT", 1, "ellipse"), refused=r"in FRONT a ELLIPSE \w+ on layer ROUNDS, line [\d,]+ of .* curves of this kind aren't "
-        r"read; lines of the view end at it$"),
+    Row("round_closes_front", rounded("FRONT", 1, "ellipse"), refused=r"in FRONT a ELLIPSE \w+ on layer ROUNDS, line [\d,]+ of .*; recon "
+        r"reads level and upright lines and arcs alone; lines of the view end at it$"),
     Row("round_closes_top", rounded("TOP", 1.5, "ellipse"), refused=r"in TOP a ELLIPSE \w+ on layer ROUNDS.*; lines of the view end at it$"),
     Row("rounds_close_top_at_both_ends", rounded_ends, refused=r"in TOP a ELLIPSE \w+ on layer ROUNDS.*; lines of the view end at it$"),
     Row("curve_on_a_layer_of_its_own", with_views(in_front(lambda space, x, y: space.add_ellipse((x + 3, y + 2), (0.7, 0), 0.5, dxfattribs={"layer": "HOLES"}))),
@@ -125,7 +125,7 @@ ROWS = (
     Row("curve_left_out", with_views(in_front(lambda space, x, y: space.add_ellipse((x + 3, y + 2), (0.7, 0), 0.5, dxfattribs={"layer": "HOLES"}))),
         ("--leave-out", "layer=HOLES"), told="a part 6 wide, 4 deep and 4 high"),
     Row("curve_on_the_layer_of_edges", with_views(in_front(lambda space, x, y: space.add_ellipse((x + 3, y + 2), (0.7, 0), 0.5))),
-        refused="in FRONT a ELLIPSE .* curves of this kind aren't read$"),
+        refused="in FRONT a ELLIPSE .* recon reads level and upright lines and arcs alone$"),
     Row("linetype_that_tells_nothing", with_views(in_front(lambda space, x, y: space.add_line((x, y + 2), (x + 6, y + 2), dxfattribs={"linetype": "ODD"}))),
         refused="in FRONT a LINE .*: say --visible, --hidden or --leave-out linetype=ODD$"),
     Row("one_group_beside", with_views(boxes(1)), refused=r"beside the views stands .* --leave-out group=4: group 4, 4 lines"),

@@ -22,8 +22,8 @@ from .support import EXAMPLES, TOOLS, draft, needs_command, needs_module, needs_
 SHEETS = EXAMPLES / "sheets"
 
 
-def plate_with_hole(file: pathlib.Path) -> None:
-    """A plate of 40 by 30 by 10 with a hole of radius 5 through it, on a sheet in millimetres."""
+def plate_with_hole(file: pathlib.Path, hidden: tuple[int, ...] = (15, 25, 60, 70)) -> None:
+    """A plate of 40 by 30 by 10 with a hole of radius 5 through it, on a sheet in millimetres, with some of its outlines."""
     import ezdxf
     doc = ezdxf.new("R2010", setup=True)
     doc.header["$INSUNITS"] = 4
@@ -32,7 +32,7 @@ def plate_with_hole(file: pathlib.Path) -> None:
         corners = [(right, up), (right + wide, up), (right + wide, up + high), (right, up + high)]
         space.add_lwpolyline(corners, close=True)
     space.add_circle((20, 35), 5)
-    for x in (15, 25, 60, 70):
+    for x in hidden:
         space.add_line((x, 0), (x, 10), {"linetype": "HIDDEN"})
     doc.saveas(file)
 
@@ -111,6 +111,16 @@ class Records(InAFolder):
         self.assertEqual((solid["volume"], solid["volume_with_pi"], solid["faces"]), (None, ["12000", "-250"], None))
         self.assertEqual(solid["size"], ["40", "30", "10"])
         self.assertEqual(solid["volume_about"], f"{12000 - 250 * math.pi:.9g}")
+        self.assertEqual(told["rounds"]["cause"], [])
+
+    @needs_module("ezdxf", "python3-ezdxf")
+    def test_why_no_solid_is_kept(self) -> None:
+        plate_with_hole(self.room / "plate.dxf", (15, 25))
+        told = self.record(self.room / "plate.dxf")
+        self.assertEqual(told["count"], 0)
+        [cause] = told["rounds"]["cause"]
+        self.assertIn("the circle of radius 5", cause)
+        self.assertIn("isn't drawn", cause)
 
     @needs_command("parallel", "parallel")
     def test_a_line_of_a_table_is_the_same(self) -> None:

@@ -215,7 +215,8 @@ class Refusals(InAFolder):
         self.refused(plate, r"circle of radius 5.8 .* on layer THREADS\) ends at .*: it is a thread", thread)
         asked = self.asked("--leave-out", "layer=THREADS")
         self.exact(plate, asked)
-        self.refused(box(0, 0, 0, 50, 40, 30).cut(cylinder(2, (25, 20), 0, 30, 6)).cut(cylinder(0, (20, 15), 0, 50, 4)), "a SPLINE .* is no straight line")
+        self.refused(box(0, 0, 0, 50, 40, 30).cut(cylinder(2, (25, 20), 0, 30, 6)).cut(cylinder(0, (20, 15), 0, 50, 4)),
+                     r"a SPLINE .* is neither a level or upright line nor an arc, from \S+, \S+ to \S+, \S+: where holes cross")
 
     def test_too_many_circles(self) -> None:
         def more(space: Any, places: dict[str, tuple[float, float]]) -> None:
