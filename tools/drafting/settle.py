@@ -420,13 +420,15 @@ def told_meant(
 
 
 def chosen_told(number: int, chosen: Sequence[Means], left: int, sheet: Sheet) -> str:
-    """What is said of the views and sections that are chosen, which leave so many solids."""
+    """What is said of the views and sections that are chosen, which leave so many solids; and on a sheet where a section's lines are told from."""
+    has_sections = any(it.kind for it in chosen)
+    lines = f"The lines to be added{', those of a section from its lower left corner' if has_sections and sheet.back else ''}:"
     if left == 1:
-        return f"Solid {number + 1} is told by {names_of(chosen, sheet)} alone. The lines to be added:"
+        return f"Solid {number + 1} is told by {names_of(chosen, sheet)} alone. {lines}"
     if not chosen:
         return f"No further view tells solid {number + 1} from any other."
-    kinds = f"{'' if sheet.missing else 'further '}views{' and sections' if any(it.kind for it in chosen) else ''}"
-    return f"No {kinds} tell solid {number + 1} alone: with {names_of(chosen, sheet)} {left:,} solids are left. The lines to be added:"
+    kinds = f"{'' if sheet.missing else 'further '}views{' and sections' if has_sections else ''}"
+    return f"No {kinds} tell solid {number + 1} alone: with {names_of(chosen, sheet)} {left:,} solids are left. {lines}"
 
 
 def looked_at(case: Case) -> tuple[Sheet, Solids, list[Means], list[Means]]:

@@ -237,7 +237,9 @@ class OnTheSheet(unittest.TestCase):
                 with self.subTest(angle=angle, left=left, number=number), tempfile.TemporaryDirectory() as folder:
                     file = pathlib.Path(folder) / "sheet.dxf"
                     doc.saveas(file)
-                    ended = draft("settle", file, "--angle", angle, "--meant", number)
+                    by_section = draft("settle", file, "--angle", angle, "--meant", number).out
+                    self.assertEqual("section" in by_section.partition("alone.")[0].splitlines()[-1], "its lower left corner:" in by_section, by_section)
+                    ended = draft("settle", file, "--angle", angle, "--meant", number, "--by", "SIDE" if left else "LEFT")
                     self.assertEqual((ended.status, "mirror image" in ended.said), (0, False), ended.said)
                     lines = re.findall(r"^  (\w+) \((\S+), (\S+)\) to \((\S+), (\S+)\): (\w+)$", ended.out, re.M)
                     self.assertEqual(len(lines), ended.out.count(") to ("), ended.out)
