@@ -353,8 +353,13 @@ class Layers(NamedTuple):
 
 
 def layers_of(sheet: Sheet, marks: Sequence[Mark], placed: Placed, times: Fraction, measure: Measure, arguments: argparse.Namespace, tell: Tell) -> Layers:
-    """The layers of the sections beside the views. Each is told."""
+    """The layers of the sections beside the views. Each is told; where no cutting-plane line and no label tells of a plane they are left out."""
     part, cuts = part_of(placed, arguments.tolerance), in_one(placed.sections)
+    if not marks and not any(cut.why.labels for cut in cuts):
+        for cut in cuts:
+            which = f"group {cut.number}, " if cut.number else ""
+            tell(noted.left_out(f"a section, {which}since {cut.why}; it has no label A-A, which tells its plane: {cut.group}"))
+        cuts = []
     reader = Reader(sheet, marks, part, times, cuts)
     sections = [reader.checked(cut) for cut in cuts]
     measure = fine_enough([it.plane for it in sections], part, measure)

@@ -401,6 +401,8 @@ def told_meant(
     chosen, left = views_for(views, number)
     if by:
         chosen = [it for it in views if sheet.name(it.name) in by]
+        if len(chosen) < len(set(by)):
+            raise Refused(f"{' and '.join(sorted(set(by) - {sheet.name(it.name) for it in chosen}))}: drawn already")
     elif left != {number} and by_sections:
         chosen = with_sections(chosen, sections, number, every)
     left = left_by(chosen, number, every)

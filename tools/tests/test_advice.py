@@ -91,7 +91,7 @@ def sheets_here() -> "list[test_causes.Row]":
     return [
         row("curve_by_its_layer", with_views(curve("HOLES")), refused="leave it out by --leave-out layer=HOLES$"),
         row("curve_by_its_colour", with_views(curve("0", color=3)), refused="leave it out by --leave-out color=3$"),
-        row("curve_as_edges_are", with_views(curve("0")), refused="aren't read$"),
+        row("curve_as_edges_are", with_views(curve("0")), refused="arcs alone$"),
         row("curves_on_two_layers", with_views(curve("ONE"), curve("TWO")), refused="leave it out by --leave-out layer=ONE$"),
         row("curve_and_odd_linetype", with_views(curve("ONE"), in_front(lambda space, x, y: space.add_line((x, y + 2), (x + 6, y + 2), dxfattribs={"linetype": "ODD"}))),
             refused="."),

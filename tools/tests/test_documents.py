@@ -256,7 +256,7 @@ REFUSED: dict[str, tuple[Make, str]] = {
         lambda one: one.group(one.page(), [one.feature(corner(), placed=placement(degrees=30))]), r"an oblique edge from .* \(line of the page's view \w+\) is squared off to neither corner"),
     "a corner cut off": (lambda one: in_a_group(one, without_a_corner()), "a line of the page's view .* from its lower left corner on: it is oblique"),
     "an ellipse, all that is drawn in Top": (
-        lambda one: in_a_group(one, elliptic()), "a curve of the page's view Top is a Ellipse, and stands in line with FRONT, where the view that lacks may be"),
+        lambda one: in_a_group(one, elliptic()), "a curve of the page's view Top is neither .*, and stands in line with FRONT, where the view that lacks may be"),
     "a surface": (lambda one: in_a_group(one, Part.makePlane(10, 10)), "has no solid in it"),
 }
 

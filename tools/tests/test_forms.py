@@ -41,7 +41,7 @@ dimensions one_written_over | | !1 of 4 dimensions says another length
 dimensions one_written_over | --as-drawn | =part
 dimensions five_to_one | --scale 5:1 | =part
 section hatch for FRONT | | !in the place of FRONT stands group .* Draw FRONT uncut too
-section hatch beside | | !it has no label A-A, which tells its plane.*--leave-out group=4
+section hatch beside | | =part
 section hatch beside | --leave-out group=4 | =part
 section label SECTION A-A for SIDE | | !in the place of SIDE .* stands by it
 section label_of_two_lines beside | | !no view has a cutting-plane line with arrows and the letter A.*--leave-out group=4

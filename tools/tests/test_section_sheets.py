@@ -106,7 +106,6 @@ label=none | !it has no label A-A, which tells its plane: a half, broken-out, re
 label=none hatch=none | !a cutting-plane line A-A is drawn at group 2, .* which group is its section isn't told
 where=none | !no view has a cutting-plane line with arrows and the letter A
 letter=B | !no view has a cutting-plane line with arrows and the letter A
-label=none layer=SCHNITT hatch=none where=none | !it has no label A-A
 at=FRONT | !in the place of FRONT stands group .*, which is a section, .* Draw FRONT uncut too
 looks=SIDE plane=4 at=SIDE | !in the place of SIDE stands group .*, which is a section, .* Draw SIDE uncut too
 """

@@ -167,13 +167,19 @@ class Sections(unittest.TestCase):
                     self.drawn(drawn_with(cut, False, tells))
 
     def test_beside_the_views(self) -> None:
-        """What has a label and a cutting-plane line is read; all else is refused with the way to leave it out, which was tried."""
+        """What has a label and a cutting-plane line is read; what has neither is left out; all else is refused with the way to leave it out, which
+        was tried."""
         for name, (tells, words) in TELLS.items():
             drawing = drawn_with("FRONT", True, tells)
             with self.subTest(name):
                 if name.startswith("arrow "):
                     strokes, said = self.drawn(drawing)
                     self.assertRegex("\n".join(said), "found: SECTION A-A is what FRONT shows behind y = 2; no hatch tells its area: layer SECTION_FRONT_2")
+                    self.assertEqual(strokes, self.own)
+                    continue
+                if "hatch" in name:
+                    strokes, said = self.drawn(drawing)
+                    self.assertRegex("\n".join(said), f"left out: a section, group 4, since .*{words}.*; it has no label A-A, which tells its plane")
                     self.assertEqual(strokes, self.own)
                     continue
                 with self.assertRaisesRegex(Refused, f"^section.*{words}.*, isn't read: .*; without it the views are read by --leave-out group=4$"):
