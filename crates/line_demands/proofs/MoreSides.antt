@@ -1,16 +1,15 @@
 -- Lines are listed one after another, and marked as lines that can be met.
-use Rattle.std.proofs.Common.{◌≡◌, inl, inr, Bool, true, false, ℕ, ◌+◌, ◌*◌, ◌≤◌, List, [], ◌∷◌, ◌++◌, length, map, get_or, append_assoc, if◌then◌else◌, refl, ap, sym, subst, ◌∙◌, arith}
+use Rattle.std.proofs.Common.{◌≡◌, Bool, true, false, ℕ, ◌+◌, ◌*◌, ◌≤◌, List, [], ◌∷◌, ◌++◌, replicate, map, append_assoc, if◌then◌else◌, ap, sym, subst, ◌∙◌, arith}
 use Rattle.std.specs.Prelude.{All}
 use Rattle.std.specs.List.{flat_map, range_with_len}
-use Rattle.std.proofs.lemmas.Bool.{cases_lt}
 use Rattle.std.proofs.lemmas.Grind.{flat_map-append}
-use Rattle.std.proofs.lemmas.List.{length_push, map-append, append-nil, get_or_append_left}
+use Rattle.std.proofs.lemmas.List.{length_push, length-replicate, get_or-replicate, map-append, append-nil}
 use Rattle.std.proofs.lemmas.List.Elements.{All-push}
+use Rattle.std.proofs.lemmas.List.Folds.{sum_by-replicate}
 use Rattle.std.proofs.lemmas.List.FromFn.{map-range_with_len_more}
-use Rattle.std.proofs.lemmas.List.Sums.{sum_by_push}
-use Rattle.std.proofs.Math.Seq.{get_or-append_seam}
 use Rattle.line_demands.specs.declared.lines.Beside.{Beside}
-use Rattle.line_demands.specs.Gathered.{AreMoreSides, AreMarkedMet}
+use Rattle.line_demands.specs.Gathered.{AreMoreSides}
+use Rattle.line_demands.specs.Lines.{AreMarked}
 use Rattle.line_demands.specs.KeptColumns.{IsBeside, AreSides}
 use Rattle.line_demands.proofs.ListParts.{range_more}
 use Rattle.solid_model.specs.declared.line_id.LineId.{LineId}
@@ -57,22 +56,13 @@ module _ (p : ProblemParts) where
   pub fewer : (xs : List LineId) (a b : ℕ) (old new : List Beside) → a ≤ b → AreMoreSides p xs a old new → AreMoreSides p xs b old new
   fewer xs a b old new l more = record { listed = more.listed; each = more.each; few = (let e = more.few in omega arith) }
 
--- one mark more
-pub met_more : (n : ℕ) (met : List Bool) → AreMarkedMet n met → AreMarkedMet (n + 1) (met ++ true ∷ [])
-met_more n met so_far = (
-  (let e = length_push met true in let f = so_far.0 in omega arith),
-  record {
-    once = λ i l. elim (cases_lt i (length met)) as (λ _. times_listed i [] + one_if (get_or (met ++ true ∷ []) i false) ≡ 1) [
-      | inl m ↦ ap (λ b. times_listed i [] + one_if b) (get_or_append_left met (true ∷ []) false i m) ∙ so_far.1.once i m
-      | inr m ↦ (let e : length met ≡ i = (let f = length_push met true in omega arith) in ap (λ j. times_listed i [] + one_if (get_or (met ++ true ∷ []) j false)) (sym e) ∙ ap (λ b. times_listed i [] + one_if b) (get_or-append_seam met true [] false))
-    ];
-    below = λ k d l. absurd (omega arith);
-    counted = (let e = sum_by_push one_if met true in let f = so_far.1.counted in let g = length_push met true in omega arith);
-  },
-)
-
-pub none_met : AreMarkedMet 0 []
-none_met = (refl, record { once = λ i l. absurd (omega arith); below = λ k d l. absurd (omega arith); counted = refl })
+-- so many marks of lines that can be met
+pub all_marked_met : (n : ℕ) → AreMarked (replicate n true) []
+all_marked_met n = record {
+  once = λ i l. ap (λ b. times_listed i [] + one_if b) (get_or-replicate n i true false (omega (arith, l, length-replicate n true)));
+  below = λ k d l. absurd (omega arith);
+  counted = let e = sum_by-replicate one_if n true in let f = length-replicate n true in omega arith;
+}
 
 -- the level and the upright lines of a view that shows something
 pub view_listed : (p : ProblemParts) (v : View) → is_drawn_view p.grid v ≡ true → (old half new : List Beside)

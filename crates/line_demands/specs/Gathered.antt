@@ -6,7 +6,6 @@ use Rattle.solid_model.specs.declared.segment.Style.TheVariants.{Blank}
 use Rattle.line_demands.specs.declared.lines.Beside.{Beside}
 use Rattle.line_demands.specs.declared.spans.Span.{Span}
 use Rattle.line_demands.specs.Touching.{is_of, view_width, shown_cell}
-use Rattle.line_demands.specs.Lines.{AreMarked}
 use Rattle.line_demands.specs.Spans.{is_on, known_there, AreWithin, AreAdded}
 use Rattle.solid_model.specs.Decisions.{decided_by}
 use Rattle.solid_model.specs.Demands.{known_in}
@@ -109,14 +108,6 @@ pub record AreTouchedTo (sides : List Beside) (on : List (List ℕ)) (blocks n :
 -- so many lists with nothing in them
 abbrev pub AllEmpty : {A : Type 0} → ℕ → List (List A) → Type 0
 AllEmpty count lists = (length lists ≡ count) × All (λ xs. xs ≡ []) lists
-
--- so many blocks, of none of which anything is decided
-abbrev pub AreUndecided : ℕ → List (Option Bool) → Type 0
-AreUndecided count values = (length values ≡ count) × All (λ v. v ≡ None) values
-
--- so many lines that can be met
-abbrev pub AreMarkedMet : ℕ → List Bool → Type 0
-AreMarkedMet count met = (length met ≡ count) × AreMarked met []
 
 -- these lines more, so many at most
 pub record AreMoreSides (p : ProblemParts) (lines : List LineId) (most : ℕ) (old new : List Beside) : Type 0 where

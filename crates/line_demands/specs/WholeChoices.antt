@@ -3,6 +3,7 @@ use Rattle.std.specs.Prelude.{◌≡◌, ◌↔◌, ◌<◌, Bool, ℕ, List, le
 use Rattle.column_lanes.specs.Styles.{style_byte}
 use Rattle.line_demands.specs.declared.known.KnownColumn.{KnownColumn}
 use Rattle.line_demands.specs.declared.lines.Beside.{Beside}
+use Rattle.line_demands.specs.declared.whole.DrawnLines.{DrawnLines}
 use Rattle.line_demands.specs.Gathered.{no_side}
 use Rattle.line_demands.specs.Spans.{column_there}
 use Rattle.solid_model.specs.Decisions.{decided_by, PartialParts}
@@ -51,11 +52,11 @@ abbrev pub DrawTheirStyles : List KnownColumn → List Beside → List ℕ → T
 DrawTheirStyles columns sides numbers = (i : ℕ) → i < length numbers
     → ColumnsDraw (bits (column_there columns (line_at sides numbers i).after).full) (bits (column_there columns (line_at sides numbers i).before).full) (line_at sides numbers i).style
 
--- there is room for the two columns of each drawn line and for the style that they draw, and its own style is there
-pub record HasRoomForLines (sides : List Beside) (lines after before drawn wanted : List ℕ) : Type 0 where
-  pub lines_are : ListDrawn sides (length sides) lines
-  pub after_count : length after ≡ length lines
-  pub before_count : length before ≡ length lines
-  pub drawn_count : length drawn ≡ length lines
-  pub wanted_count : length wanted ≡ length lines
-  pub wanted_is : AreStylesOf sides lines wanted
+-- the lines of these that are drawn, each with its own style, and places for its two columns and for the style that they draw
+pub record AreDrawnOf (sides : List Beside) (lines : DrawnLines) : Type 0 where
+  pub lines_are : ListDrawn sides (length sides) lines.numbers.items
+  pub after_count : length lines.after.items ≡ length lines.numbers.items
+  pub before_count : length lines.before.items ≡ length lines.numbers.items
+  pub drawn_count : length lines.drawn.items ≡ length lines.numbers.items
+  pub wanted_count : length lines.wanted.items ≡ length lines.numbers.items
+  pub wanted_is : AreStylesOf sides lines.numbers.items lines.wanted.items

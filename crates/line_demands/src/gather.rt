@@ -1,10 +1,10 @@
 //! The plan of a problem: its columns, the cells of its blocks, and the lines beside them.
 
 ghost use Rattle.std.specs.Prelude.{◌≡◌, ◌==◌, ◌&&◌, ◌||◌, ◌<◌, ◌≤◌, ℕ, [], length, slice_index_or, All, None, is_some, vec_capacity, IsTrue, IfOk, IfSome};
-ghost use Rattle.solid_model.specs.Demands.{has_line, lines_at, lines_along, lines_in};
+ghost use Rattle.solid_model.specs.Demands.{lines_at, lines_along, lines_in};
 ghost use Rattle.solid_model.specs.Wire.{is_drawn_view};
-ghost use Rattle.line_demands.specs.Gathered.{place_in_view, place_numbered, block_of_place, IsListed, AreAddedTo, IsGathered, AreGatheredTo, AreTouchedBy, AreTouchedTo, AllEmpty, AreMarkedMet, AreMoreSides, AreUndecided};
-ghost use Rattle.line_demands.specs.KeptColumns.{column_count, IsBeside, AreSides};
+ghost use Rattle.line_demands.specs.Gathered.{place_in_view, place_numbered, block_of_place, IsListed, AreAddedTo, IsGathered, AreGatheredTo, AreTouchedBy, AreTouchedTo, AllEmpty, AreMoreSides};
+ghost use Rattle.line_demands.specs.KeptColumns.{column_count, AreSides};
 ghost use Rattle.line_demands.specs.Touching.{view_width, view_height};
 ghost use Rattle.solid_model.specs.declared.cell.Axis.{Axis};
 ghost use Rattle.line_demands.specs.Lines.{AreMarked, AreBeside, AreBrokenTo};
@@ -215,18 +215,9 @@ fn add_lines_at(
             at: at as u8,
             cell: cell as u8,
         };
-        sides.push(side_of(problem, line))?;
+        sides.push(beside_of(problem.grid(), line))?;
     }
     Ok(())
-}
-
-/// A line with its style and the columns beside it.
-fn side_of(problem: &Problem, line: LineId) -> Beside
-    requires { IsTrue (has_line problem.now.grid line) }
-    ensures line { result.line ≡ line }
-    ensures beside { IsBeside problem.now result }
-{
-    beside_of(problem.grid(), line)
 }
 
 /// The lines of a view, level or upright.
@@ -317,26 +308,4 @@ pub fn break_all(columns: &[KnownColumn], sides: &[Beside], met: &mut [bool], br
             break_line(met, broken, line as u32);
         }
     }
-}
-
-/// So many blocks, of none of which anything is decided.
-pub fn no_values(alloc: Global, count: usize) -> Result<Vec<Option<bool>>, Memory>
-    ensures { IfOk result (λ values. AreUndecided count values.items) }
-{
-    let mut values = Vec::with_capacity(alloc, count)?;
-    for _made in 0..count {
-        values.push(None)?;
-    }
-    Ok(values)
-}
-
-/// So many marks of lines that can be met.
-pub fn all_met(alloc: Global, count: usize) -> Result<Vec<bool>, Memory>
-    ensures { IfOk result (λ met. AreMarkedMet count met.items) }
-{
-    let mut met = Vec::with_capacity(alloc, count)?;
-    for _made in 0..count {
-        met.push(true)?;
-    }
-    Ok(met)
 }

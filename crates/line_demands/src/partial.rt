@@ -12,16 +12,14 @@ ghost use Rattle.line_demands.specs.Broken.{TellsBroken};
 ghost use Rattle.solid_model.specs.Decisions.{decided_by};
 
 use crate::beside::{beside_of, number_of_column};
-use crate::gather::{
-    all_met, all_sides, break_all, empty_lists, empty_spans, gather_columns, no_values, touch_all,
-};
+use crate::gather::{all_sides, break_all, empty_lists, empty_spans, gather_columns, touch_all};
 use crate::known::KnownColumn;
 use crate::lines::{Beside, can_be_met, least, mend_lines, try_lines};
 use crate::plan::{LineList, SpanList};
 use crate::seen::{SeenLine, seen_line};
 use crate::spans::set_spans;
 use crate::steps::Steps;
-use crate::whole::{columns_draw, drawn_lines, wanted_styles};
+use crate::whole::DrawnLines;
 use solid_model::{Decision, LineId, Memory, Problem, View};
 use std::alloc::Global;
 use std::marker::{Brand, Model};
@@ -55,14 +53,8 @@ pub struct Partial<'p> {
     /// For each decision the places, among the lines that touch its block, of those that may force
     /// something.
     doubts: Vec<u64>,
-    /// The numbers of the lines that are drawn.
-    lines: Vec<usize>,
-    /// Room for the columns after and before each of these, and for the styles that they draw.
-    after: Vec<u64>,
-    before: Vec<u64>,
-    drawn: Vec<u8>,
-    /// Their own styles.
-    wanted: Vec<u8>,
+    /// The lines that are drawn.
+    drawn: DrawnLines,
 }
 
 impl<'p> Model for Partial<'p> {
@@ -73,7 +65,7 @@ impl<'p> Model for Partial<'p> {
 
     ghost use Rattle.line_demands.specs.Free.{AreDoubts};
     ghost use Rattle.line_demands.specs.KeptColumns.{IsKeptBy, AreValues};
-    ghost use Rattle.line_demands.specs.WholeChoices.{HasRoomForLines};
+    ghost use Rattle.line_demands.specs.WholeChoices.{AreDrawnOf};
     ghost use Rattle.solid_model.specs.Blocks.{IsBlocksOf};
 
     ghost view = { λ s. record { problem = s.problem.now; decisions = s.decisions.items } };
@@ -83,8 +75,7 @@ impl<'p> Model for Partial<'p> {
         (vec_capacity s.decisions) (vec_capacity s.heights) (vec_capacity s.broken)
         × AreValues s.problem.now.blocks.count s.decisions.items s.values.items
         × AreDoubts s.problem.now s.decisions.items s.doubts.items (vec_capacity s.doubts)
-        × HasRoomForLines s.sides.items s.lines.items s.after.items s.before.items s.drawn.items
-        s.wanted.items
+        × AreDrawnOf s.sides.items s.drawn
         × IsBlocksOf s.problem.now.grid s.problem.now.blocks };
 }
 
@@ -113,7 +104,7 @@ impl<'p> Partial<'p> {
         let decisions = Vec::with_capacity(alloc, count)?;
         let heights = Vec::with_capacity(alloc, count)?;
         let doubts = Vec::with_capacity(alloc, count)?;
-        let values = no_values(alloc, count)?;
+        let values = vec![in alloc; None; count]?;
         let mut spans = empty_spans(alloc, count)?;
         let mut on = Vec::new(alloc);
         let mut columns = gather_columns(alloc, problem, spans.as_mut_slice(), &mut on)?;
@@ -122,7 +113,7 @@ impl<'p> Partial<'p> {
         let sides = all_sides(alloc, problem)?;
         let mut touched = empty_lists(alloc, count)?;
         touch_all(on.as_slice(), sides.as_slice(), touched.as_mut_slice())?;
-        let mut met = all_met(alloc, sides.len())?;
+        let mut met = vec![in alloc; true; sides.len()]?;
         let mut broken = Vec::with_capacity(alloc, sides.len())?;
         break_all(
             columns.as_slice(),
@@ -130,12 +121,7 @@ impl<'p> Partial<'p> {
             met.as_mut_slice(),
             &mut broken,
         );
-        let lines = drawn_lines(alloc, sides.as_slice())?;
-        let drawn_count = lines.len();
-        let after = vec![in alloc; 0; drawn_count]?;
-        let before = vec![in alloc; 0; drawn_count]?;
-        let drawn = vec![in alloc; 0; drawn_count]?;
-        let wanted = wanted_styles(alloc, sides.as_slice(), lines.as_slice())?;
+        let drawn = DrawnLines::of(alloc, sides.as_slice())?;
         Ok(Partial {
             problem,
             decisions,
@@ -148,11 +134,7 @@ impl<'p> Partial<'p> {
             broken,
             heights,
             doubts,
-            lines,
-            after,
-            before,
             drawn,
-            wanted,
         })
     }
 
@@ -331,15 +313,8 @@ impl<'p> Partial<'p> {
         if self.broken_line().is_some() {
             return false;
         }
-        columns_draw(
-            self.columns.as_slice(),
-            self.sides.as_slice(),
-            self.lines.as_slice(),
-            self.after.as_mut_slice(),
-            self.before.as_mut_slice(),
-            self.drawn.as_mut_slice(),
-            self.wanted.as_slice(),
-        )
+        self.drawn
+            .are_drawn_by(self.columns.as_slice(), self.sides.as_slice())
     }
 
     /// What is known of a column of a view, by its places to the right and upwards: the cells that

@@ -6,13 +6,26 @@ ghost use Rattle.std.specs.Prelude.{◌≡◌, ◌↔◌, ◌<◌, false, length
 ghost use Rattle.solid_model.specs.declared.segment.Style.TheVariants.{Blank};
 ghost use Rattle.lemmas.specs.Lists.{Each};
 ghost use Rattle.line_demands.specs.Lines.{AreBeside};
-ghost use Rattle.line_demands.specs.WholeChoices.{ListDrawn, AreStylesOf, ArePackedOf, DrawTheirStyles};
+ghost use Rattle.line_demands.specs.WholeChoices.{AreDrawnOf, ListDrawn, AreStylesOf, ArePackedOf, DrawTheirStyles};
 
 use crate::known::KnownColumn;
 use crate::lines::Beside;
 use column_lanes::{style_byte, styles};
 use solid_model::{Memory, Style};
 use std::alloc::Global;
+
+/// The lines that are drawn, by their numbers in the order of all lines.
+#[derive(Debug, Drop)]
+pub struct DrawnLines {
+    numbers: Vec<usize>,
+    /// The full cells of the columns after and before each, and the styles that they draw, as they
+    /// were looked at last.
+    after: Vec<u64>,
+    before: Vec<u64>,
+    drawn: Vec<u8>,
+    /// Their own styles.
+    wanted: Vec<u8>,
+}
 
 /// Something is drawn.
 fn is_drawn(style: Style) -> bool
@@ -73,27 +86,45 @@ fn pack(
     }
 }
 
-/// Whether the full cells of the columns beside each of some lines, told by their numbers, draw its
-/// style. There is room for the columns and for what they draw.
-pub fn columns_draw(
-    columns: &[KnownColumn],
-    sides: &[Beside],
-    numbers: &[usize],
-    after: &mut [u64],
-    before: &mut [u64],
-    drawn: &mut [u8],
-    wanted: &[u8],
-) -> bool
-    requires columns { AreBeside (length columns.now) sides.now }
-    requires lines { Each (λ n. n < length sides.now) numbers.now }
-    requires after { length after.old ≡ length numbers.now }
-    requires before { length before.old ≡ length numbers.now }
-    requires drawn { length drawn.old ≡ length numbers.now }
-    requires wanted { length wanted.now ≡ length numbers.now }
-    requires styles { AreStylesOf sides.now numbers.now wanted.now }
-    ensures { IsTrue result ↔ DrawTheirStyles columns.now sides.now numbers.now }
-{
-    pack(columns, sides, numbers, after, before);
-    styles(after, before, drawn);
-    &*drawn == wanted
+impl DrawnLines {
+    /// The lines among these that are drawn. An `Err` is out of memory.
+    pub fn of(alloc: Global, sides: &[Beside]) -> Result<DrawnLines, Memory>
+        ensures { IfOk result (λ lines. AreDrawnOf sides.now lines) }
+    {
+        let numbers = drawn_lines(alloc, sides)?;
+        let count = numbers.len();
+        let after = vec![in alloc; 0; count]?;
+        let before = vec![in alloc; 0; count]?;
+        let drawn = vec![in alloc; 0; count]?;
+        let wanted = wanted_styles(alloc, sides, numbers.as_slice())?;
+        Ok(DrawnLines {
+            numbers,
+            after,
+            before,
+            drawn,
+            wanted,
+        })
+    }
+
+    /// Whether the full cells of the columns beside each of them draw its style.
+    pub fn are_drawn_by(&mut self, columns: &[KnownColumn], sides: &[Beside]) -> bool
+        requires columns { AreBeside (length columns.now) sides.now }
+        requires lines { AreDrawnOf sides.now self.old }
+        ensures lines { AreDrawnOf sides.now self.new }
+        ensures drawn { IsTrue result ↔ DrawTheirStyles columns.now sides.now self.old.numbers.items }
+    {
+        pack(
+            columns,
+            sides,
+            self.numbers.as_slice(),
+            self.after.as_mut_slice(),
+            self.before.as_mut_slice(),
+        );
+        styles(
+            self.after.as_slice(),
+            self.before.as_slice(),
+            self.drawn.as_mut_slice(),
+        );
+        self.drawn.as_slice() == self.wanted.as_slice()
+    }
 }

@@ -1,13 +1,12 @@
 -- What was gathered is what is kept.
-use Rattle.std.proofs.Common.{◌≡◌, ◌≤◌, ◌<◌, ◌++◌, ◌∷◌, [], List, ℕ, length, map, take, drop, get_or, vec_capacity, ap, sym, subst, ◌∙◌, arith, rules}
+use Rattle.std.proofs.Common.{◌≡◌, ◌≤◌, ◌<◌, ◌++◌, ◌∷◌, [], List, ℕ, None, true, length, replicate, map, take, drop, get_or, vec_capacity, ap, sym, subst, ◌∙◌, arith, rules}
 use Rattle.std.specs.Prelude.{All}
-use Rattle.std.proofs.lemmas.List.{take_at}
+use Rattle.std.proofs.lemmas.List.{take_at, length-replicate, get_or-replicate}
 use Rattle.line_demands.specs.declared.lines.Beside.{Beside}
 use Rattle.line_demands.specs.Gathered.{AreTouchedTo}
 use Rattle.line_demands.specs.Free.{AreDoubts}
 use Rattle.line_demands.specs.KeptColumns.{AreValues}
-use Rattle.line_demands.specs.WholeChoices.{ListDrawn, AreStylesOf}
-use Rattle.lemmas.specs.Lists.{Each}
+use Rattle.line_demands.specs.WholeChoices.{AreDrawnOf}
 use Rattle.solid_model.specs.declared.decision.Decision.{Decision}
 use Rattle.line_demands.specs.Touching.{lines_touching}
 use Rattle.line_demands.specs.Lines.{AreBrokenTo}
@@ -52,8 +51,9 @@ invariant_of-result c =
     let lost : AreBrokenTo (columns ++ no_column ∷ []) sides (length sides) broken =
     subst (λ cs. AreBrokenTo cs sides (length sides) broken) seen
     (subst (λ (bs : List Beside). AreBrokenTo c.as_slice-3.result.now bs (length bs) broken) c.as_slice-4.ensures.value c.break_all.ensures.broken) in
+    let met_is : c.in_ok-met.met.items ≡ replicate c.len.result true = c.in_ok-met.ensures.items_if_clones_equal (λ y e. e) in
     let met_was : c.as_mut_slice-3.result.now ≡ c.in_ok-met.met.items = c.as_mut_slice-3.ensures.value in
-    let met_count : length met ≡ length sides = (let a = c.break_all.auto.met in let b = ap length met_was in let d = c.in_ok-met.ensures.0 in search rules) in
+    let met_count : length met ≡ length sides = (let a = c.break_all.auto.met in let b = ap length met_was in let d = ap length met_is ∙ length-replicate c.len.result true in search rules) in
     let all_spans : take c.in_ok-spans.spans.len (spans ++ drop (length spans) c.in_ok-spans.spans.items) ≡ spans = take_at spans _ c.in_ok-spans.spans.len (c.gather_columns.auto.spans ∙ c.as_mut_slice.ensures.len) in
     let all_touched : take c.in_ok-touched.touched.len (touched ++ drop (length touched) c.in_ok-touched.touched.items) ≡ touched = take_at touched _ c.in_ok-touched.touched.len (c.touch_all.auto.touched ∙ c.as_mut_slice-2.ensures.len) in
     let all_met : take c.in_ok-met.met.len (met ++ drop (length met) c.in_ok-met.met.items) ≡ met = take_at met _ c.in_ok-met.met.len (c.break_all.auto.met ∙ c.as_mut_slice-3.ensures.len) in
@@ -62,7 +62,9 @@ invariant_of-result c =
     let wide : length met ≤ vec_capacity c.break_all.new.broken = (let a = c.break_all.ensures.room in let b = c.in_ok-broken.ensures.exact in omega (arith, a, b, met_count, c.len-2.ensures, c.in_ok-sides.sides.ok.0)) in
     let exact : (b : ℕ) (ls : List ℕ) (d : Beside) → b < length spans → map (λ i. (get_or sides i d).line) (get_or touched b ls) ≡ lines_touching p b =
     touched_exact p c.known.ensures.blocks spans columns on c.in_ok-columns.ensures sides c.in_ok-sides.ensures.sides touched listed in
-    let table : AreValues p.blocks.count [] c.in_ok-values.values.items = record { count = c.in_ok-values.ensures.0 ∙ size; each = λ b e l. c.in_ok-values.ensures.1 b e (let m = c.in_ok-values.ensures.0 in omega (arith, m, size, l)) } in (
+    let values_are : c.in_ok-values.values.items ≡ replicate c.from-count.result None = c.in_ok-values.ensures.items_if_clones_equal (λ y e. search rules) in
+    let table : AreValues p.blocks.count [] c.in_ok-values.values.items = subst (AreValues p.blocks.count []) (sym values_are)
+    (record { count = length-replicate c.from-count.result None ∙ size; each = λ b e l. get_or-replicate c.from-count.result b None e (omega (arith, size, l)) }) in (
       planned_as p c.in_ok-decisions.decisions.items spans _ touched _ sides (columns ++ no_column ∷ []) _ met _ c.in_ok-heights.heights.items broken _ _ _
           c.in_ok-decisions.ensures.items all_spans all_touched c.in_ok-push.ensures.items all_met c.in_ok-heights.ensures.items
           (planned p c.known.ensures.blocks spans columns on touched sides met broken _ _ _ c.in_ok-columns.ensures c.in_ok-sides.ensures.sides c.in_ok-sides.ensures.few listed exact met_count c.break_all.ensures.marked lost roomy tall wide),
@@ -70,19 +72,6 @@ invariant_of-result c =
       subst (λ (ds : List Decision). AreDoubts p ds c.in_ok-doubts.doubts.items (vec_capacity c.in_ok-doubts.doubts)) (sym c.in_ok-decisions.ensures.items)
           (subst (λ ms. AreDoubts p [] ms (vec_capacity c.in_ok-doubts.doubts)) (sym c.in_ok-doubts.ensures.items)
           (no_doubts p (vec_capacity c.in_ok-doubts.doubts) (let a = c.in_ok-doubts.ensures.exact in omega (arith, a, size)))),
-      record {
-        lines_are = subst (λ (ss : List Beside). ListDrawn ss (length ss) c.in_ok-lines.lines.items) c.as_slice-5.ensures.value c.in_ok-lines.ensures;
-        after_count = omega (arith, c.in_ok-after.ensures.len, c.len-drawn_count.ensures, c.in_ok-lines.lines.ok.0);
-        before_count = omega (arith, c.in_ok-before.ensures.len, c.len-drawn_count.ensures, c.in_ok-lines.lines.ok.0);
-        drawn_count = omega (arith, c.in_ok-drawn.ensures.len, c.len-drawn_count.ensures, c.in_ok-lines.lines.ok.0);
-        wanted_count = c.in_ok-wanted.ensures.count ∙ ap length c.as_slice-7.ensures.value;
-        wanted_is = subst (λ (ss : List Beside). AreStylesOf ss c.in_ok-lines.lines.items c.in_ok-wanted.wanted.items) c.as_slice-6.ensures.value
-            (subst (λ ls. AreStylesOf c.as_slice-6.result.now ls c.in_ok-wanted.wanted.items) c.as_slice-7.ensures.value c.in_ok-wanted.ensures.styles);
-      },
+      subst (λ (ss : List Beside). AreDrawnOf ss c.in_ok-drawn.drawn) c.as_slice-5.ensures.value c.in_ok-drawn.ensures,
       c.known.ensures.blocks,
     )
-
-pub wanted_styles-requires : goal.wanted_styles-requires
-wanted_styles-requires c =
-    rw (c.as_slice-6.ensures.value, c.as_slice-7.ensures.value)
-    (subst (λ (ss : List Beside). Each (λ n. n < length ss) c.in_ok-lines.lines.items) c.as_slice-5.ensures.value c.in_ok-lines.ensures.there)
