@@ -1,5 +1,6 @@
 pub mod Codes
 pub mod Groups
+pub mod LinePlaces
 pub mod NumeralParts
 pub mod Numerals
 pub mod Pairs

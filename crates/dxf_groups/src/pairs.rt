@@ -1,13 +1,12 @@
 //! The pairs of a text.
 
-ghost use Rattle.std.specs.Prelude.{◌≡◌, ◌<◌, ◌≤◌, ℤ, Bool, Some, Err, false, length, drop, IfOk, IfSome, MatchResult};
-ghost use Rattle.std.specs.List.{after_first, before_first};
-ghost use Rattle.dxf_groups.specs.Codes.{group_code_of, is_comment, is_end};
+ghost use Rattle.std.specs.Prelude.{◌≡◌, ◌<◌, ℤ, Bool, Some, Err, false, length, IfOk, IfSome, MatchResult};
+ghost use Rattle.dxf_groups.specs.Codes.{is_comment, is_end};
 ghost use Rattle.dxf_groups.specs.Groups.{is_given, wanted_on};
+ghost use Rattle.dxf_groups.specs.LinePlaces.{IsCodeLineAt};
 ghost use Rattle.dxf_groups.specs.Pairs.{ended};
 ghost use Rattle.dxf_groups.specs.ReadPairs.{IsCodeAt, IsPlaceIn, IsReadFrom, IsReading, pairs_at};
 ghost use Rattle.dxf_groups.specs.Spans.{IsSpanIn, span_of};
-ghost use Rattle.dxf_groups.specs.TextLines.{content_of, is_feed};
 
 use crate::code_test::CodeTest;
 use crate::codes::{COMMENT, code_in_columns, group_code};
@@ -38,58 +37,63 @@ pub struct CodePlace {
 
 /// The group code of a line, where that is one, and where the next line begins.
 #[derive(Clone, Copy)]
-struct CodeLine {
-    code: Option<i32>,
-    after: usize,
+pub struct CodeLine {
+    pub code: Option<i32>,
+    pub after: usize,
 }
 
-/// The group code of the text's first line, where that is three columns and its line feed.
+/// The line that begins at `start`, where it is three columns and its line feed.
 #[inline(always)]
-fn columns_code(text: &[u8]) -> Option<i32>
-    ensures within { IfSome result (λ _. 4 ≤ length text.now) }
-    ensures code { IfSome result (λ code.
-        group_code_of (content_of (before_first is_feed text.now)) ≡ Some code) }
-    ensures next { IfSome result (λ _. after_first is_feed text.now ≡ drop 4 text.now) }
+fn columns_line_at(text: &[u8], start: usize) -> Option<CodeLine>
+    requires { start < length text.now }
+    ensures { IfSome result (IsCodeLineAt text.now start) }
 {
-    if text.len() < 4 {
+    let line = &text[start..];
+    if line.len() < 4 {
         return None;
     }
-    if text[3] != b'\n' {
+    if line[3] != b'\n' {
         return None;
     }
-    let code = code_in_columns(text[0], text[1], text[2])?;
-    Some(code)
+    let code = code_in_columns(line[0], line[1], line[2])?;
+    Some(CodeLine {
+        code: Some(code),
+        after: start + 4,
+    })
 }
 
 /// The same where a carriage return stands between the columns and the line feed.
-fn columns_code_before_return(text: &[u8]) -> Option<i32>
-    ensures within { IfSome result (λ _. 5 ≤ length text.now) }
-    ensures code { IfSome result (λ code.
-        group_code_of (content_of (before_first is_feed text.now)) ≡ Some code) }
-    ensures next { IfSome result (λ _. after_first is_feed text.now ≡ drop 5 text.now) }
+fn returned_line_at(text: &[u8], start: usize) -> Option<CodeLine>
+    requires { start < length text.now }
+    ensures { IfSome result (IsCodeLineAt text.now start) }
 {
-    if text.len() < 5 {
+    let line = &text[start..];
+    if line.len() < 5 {
         return None;
     }
-    if text[3] != b'\r' {
+    if line[3] != b'\r' {
         return None;
     }
-    if text[4] != b'\n' {
+    if line[4] != b'\n' {
         return None;
     }
-    let code = code_in_columns(text[0], text[1], text[2])?;
-    Some(code)
+    let code = code_in_columns(line[0], line[1], line[2])?;
+    Some(CodeLine {
+        code: Some(code),
+        after: start + 5,
+    })
 }
 
-/// The group code of the line that begins at `start`, whatever it is.
-fn any_code_line(text: &[u8], start: usize) -> CodeLine
+/// The line that begins at `start`, whatever it is, quicker where it is three columns and a carriage
+/// return. It is a call of its own, so that it costs nothing where there are none.
+#[inline(never)]
+fn other_code_line(text: &[u8], start: usize) -> CodeLine
     requires { start < length text.now }
-    ensures code { result.code
-        ≡ group_code_of (content_of (before_first is_feed (drop start text.now))) }
-    ensures next { drop result.after text.now ≡ after_first is_feed (drop start text.now) }
-    ensures goes_on { start < result.after }
-    ensures within { result.after ≤ length text.now }
+    ensures { IsCodeLineAt text.now start result }
 {
+    if let Some(line) = returned_line_at(text, start) {
+        return line;
+    }
     let line = text_line_at(text, start);
     CodeLine {
         code: group_code(&text[line.content.start..line.content.end]),
@@ -97,41 +101,14 @@ fn any_code_line(text: &[u8], start: usize) -> CodeLine
     }
 }
 
-/// The same, quicker where it is three columns and a carriage return. It is a call of its own, so
-/// that it takes no room where there are none.
-#[inline(never)]
-fn other_code_line(text: &[u8], start: usize) -> CodeLine
-    requires { start < length text.now }
-    ensures code { result.code
-        ≡ group_code_of (content_of (before_first is_feed (drop start text.now))) }
-    ensures next { drop result.after text.now ≡ after_first is_feed (drop start text.now) }
-    ensures goes_on { start < result.after }
-    ensures within { result.after ≤ length text.now }
-{
-    match columns_code_before_return(&text[start..]) {
-        Some(code) => CodeLine {
-            code: Some(code),
-            after: start + 5,
-        },
-        None => any_code_line(text, start),
-    }
-}
-
-/// The group code of the line that begins at `start`.
+/// The line that begins at `start`, with its group code.
 #[inline(always)]
 fn code_line_at(text: &[u8], start: usize) -> CodeLine
     requires { start < length text.now }
-    ensures code { result.code
-        ≡ group_code_of (content_of (before_first is_feed (drop start text.now))) }
-    ensures next { drop result.after text.now ≡ after_first is_feed (drop start text.now) }
-    ensures goes_on { start < result.after }
-    ensures within { result.after ≤ length text.now }
+    ensures { IsCodeLineAt text.now start result }
 {
-    match columns_code(&text[start..]) {
-        Some(code) => CodeLine {
-            code: Some(code),
-            after: start + 4,
-        },
+    match columns_line_at(text, start) {
+        Some(line) => line,
         None => other_code_line(text, start),
     }
 }

@@ -1,9 +1,10 @@
 //! The lines of a text.
 
-ghost use Rattle.std.specs.Prelude.{◌≡◌, ℕ, ◌-◌, ◌<◌, ◌≤◌, ◌∷◌, true, length, take, drop, slice_index, IfSome};
+ghost use Rattle.std.specs.Prelude.{◌≡◌, ℕ, ◌-◌, ◌<◌, ◌≤◌, true, length, take, drop, slice_index, IfSome};
 ghost use Rattle.std.specs.List.{after_first, position_or_len, prefix_len, suffix_len};
+ghost use Rattle.dxf_groups.specs.LinePlaces.{IsLineAt};
 ghost use Rattle.dxf_groups.specs.Spans.{IsSpanIn, span_of};
-ghost use Rattle.dxf_groups.specs.TextLines.{content_of, contents_of, is_blank, is_feed, without_return};
+ghost use Rattle.dxf_groups.specs.TextLines.{content_of, is_blank, is_feed, without_return};
 
 use crate::span::Span;
 use memchr::memchr;
@@ -38,7 +39,7 @@ fn near_feed(text: &[u8]) -> Option<usize>
 }
 
 /// How many bytes stand before the first line feed, which may be far. It is a call of its own, so
-/// that its vectors don't take room in those who read short lines.
+/// that its vectors take no registers of those who read short lines.
 #[cold]
 #[inline(never)]
 fn far_feed_place(text: &[u8]) -> usize
@@ -205,12 +206,7 @@ fn line_to(text: &[u8], start: usize, feed: usize) -> TextLine
     requires some { start < length text.now }
     requires within { feed ≤ length (drop start text.now) }
     requires place { feed ≡ position_or_len is_feed (drop start text.now) }
-    ensures span { IsSpanIn text.now result.content }
-    ensures content { contents_of (drop start text.now)
-        ≡ span_of text.now result.content ∷ contents_of (drop result.after text.now) }
-    ensures next { drop result.after text.now ≡ after_first is_feed (drop start text.now) }
-    ensures goes_on { start < result.after }
-    ensures within { result.after ≤ length text.now }
+    ensures { IsLineAt text.now start result }
 {
     let rest = &text[start..];
     let span = content_span(&rest[..feed]);
@@ -228,12 +224,7 @@ fn line_to(text: &[u8], start: usize, feed: usize) -> TextLine
 #[inline(always)]
 pub fn text_line_at(text: &[u8], start: usize) -> TextLine
     requires { start < length text.now }
-    ensures span { IsSpanIn text.now result.content }
-    ensures content { contents_of (drop start text.now)
-        ≡ span_of text.now result.content ∷ contents_of (drop result.after text.now) }
-    ensures next { drop result.after text.now ≡ after_first is_feed (drop start text.now) }
-    ensures goes_on { start < result.after }
-    ensures within { result.after ≤ length text.now }
+    ensures { IsLineAt text.now start result }
 {
     line_to(text, start, feed_place(&text[start..]))
 }
@@ -244,12 +235,7 @@ pub fn text_line_at(text: &[u8], start: usize) -> TextLine
 #[inline(never)]
 fn other_line_at(text: &[u8], start: usize) -> TextLine
     requires { start < length text.now }
-    ensures span { IsSpanIn text.now result.content }
-    ensures content { contents_of (drop start text.now)
-        ≡ span_of text.now result.content ∷ contents_of (drop result.after text.now) }
-    ensures next { drop result.after text.now ≡ after_first is_feed (drop start text.now) }
-    ensures goes_on { start < result.after }
-    ensures within { result.after ≤ length text.now }
+    ensures { IsLineAt text.now start result }
 {
     line_to(text, start, far_feed_place(&text[start..]))
 }
@@ -258,12 +244,7 @@ fn other_line_at(text: &[u8], start: usize) -> TextLine
 #[inline(always)]
 pub fn near_line_at(text: &[u8], start: usize) -> TextLine
     requires { start < length text.now }
-    ensures span { IsSpanIn text.now result.content }
-    ensures content { contents_of (drop start text.now)
-        ≡ span_of text.now result.content ∷ contents_of (drop result.after text.now) }
-    ensures next { drop result.after text.now ≡ after_first is_feed (drop start text.now) }
-    ensures goes_on { start < result.after }
-    ensures within { result.after ≤ length text.now }
+    ensures { IsLineAt text.now start result }
 {
     match near_line(&text[start..]) {
         Some(line) => TextLine {

@@ -1,20 +1,17 @@
--- The text's first line is that which begins at the place.
-use Rattle.std.proofs.Common.{◌≡◌, rules, Some, drop, w32, FitsSigned, sym, subst, ◌∙◌}
-use Rattle.std.specs.List.{after_first, before_first}
-use Rattle.std.proofs.lemmas.Int.{to_z-of_z}
-use Rattle.std.proofs.lemmas.List.{drop-drop, take_rest}
+-- What counts of the line is what stands before its line feed.
+use Rattle.std.proofs.Common.{ap, ◌∙◌}
 use Rattle.dxf_groups.specs.Codes.{group_code_of}
-use Rattle.dxf_groups.specs.TextLines.{content_of, is_feed}
+use Rattle.dxf_groups.proofs.FirstPairs.{first_line_read, same_first}
 use Rattle.dxf_groups.proofs.pairs.other_code_line.Goals as goal
 
-pub returns-in-Some-clause-code : goal.returns-in-Some-clause-code
-returns-in-Some-clause-code c =
-    let fits : FitsSigned w32 c.in-Some.code = search rules in
-    rw to_z-of_z
-    (sym (subst (λ t. group_code_of (content_of (before_first is_feed t)) ≡ Some c.in-Some.code)
-    (take_rest c.args.text.now c.args.start) c.in-Some.ensures.code))
-
-pub returns-in-Some-clause-next : goal.returns-in-Some-clause-next
-returns-in-Some-clause-next c =
-    sym (subst (λ t. after_first is_feed t ≡ drop 5 t) (take_rest c.args.text.now c.args.start)
-    c.in-Some.ensures.next ∙ drop-drop 5 c.args.start c.args.text.now)
+pub returns : goal.returns
+returns c =
+    let line = c.text_line_at-line.ensures in
+    record {
+      code = c.group_code.ensures
+          ∙ ap group_code_of (same_first _ _ _ _ _ line.content
+          (first_line_read c.args.text.now c.args.start c.text_line_at-line.result.after c.requires line.next));
+      next = line.next;
+      goes_on = line.goes_on;
+      within = line.within;
+    }
