@@ -5,11 +5,10 @@
 //! out, and lists what was handed out in the stated order. A worker that did nothing, or that
 //! couldn't be started, costs time and no answer.
 
-ghost use Rattle.std.specs.Prelude.{◌≡◌, ◌≢◌, ◌++◌, ◌-◌, [], false, List, Option, None, length, take, IsTrue, IfOk, IsPermutation, MatchResult};
+ghost use Rattle.std.specs.Prelude.{◌≡◌, ◌++◌, ◌-◌, [], false, List, Option, None, length, take, IsTrue, IfOk, IsPermutation, MatchResult};
 ghost use Rattle.std.specs.Arc.{arc_value};
 ghost use Rattle.solid_model.specs.Forcing.{is_live};
 ghost use Rattle.solid_model.specs.SearchEnds.{EndsSearch};
-ghost use Rattle.search_core.specs.Desk.{IsDesk};
 ghost use Rattle.search_end.specs.Answers.{IsAnswer, IsAnswerList, new_ones};
 ghost use Rattle.search_end.specs.Handed.{AreFewSolutions, IsHandedOut};
 ghost use Rattle.search_end.specs.Stopped.{IsEndOf, ListsAll, ListsFound, WasStopped, end_found, end_solids};
