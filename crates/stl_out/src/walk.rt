@@ -5,7 +5,7 @@ ghost use Rattle.faces.specs.PlaneFaces.{is_up_first};
 ghost use Rattle.faces.specs.PlaneSquares.{is_there};
 ghost use Rattle.solid_model.specs.Marks.{is_marked};
 ghost use Rattle.stl_out.specs.Rectangles.{AreRectanglesOf};
-ghost use Rattle.stl_out.specs.Walk.{square_in, at_square, in_row, in_rows, in_plane, on_side, on_all_sides};
+ghost use Rattle.stl_out.specs.Walk.{square_in, at_square, in_row, in_plane, on_side, on_all_sides};
 
 use crate::rectangle::Rectangle;
 use cell_rows::CellRows;
@@ -75,28 +75,7 @@ fn add_row(
     Ok(())
 }
 
-/// Puts those of so many rows at the end of the list, row by row.
-fn add_rows(
-    squares: &Squares,
-    out: Out,
-    at: usize,
-    count: usize,
-    rows: usize,
-    rectangles: &mut Vec<Rectangle>,
-) -> Result<(), Memory>
-    requires at { at ≤ 1024 }
-    requires count { count ≤ 1024 }
-    requires rows { rows ≤ 1024 }
-    ensures { OnOk result (rectangles.new.items ≡ rectangles.old.items
-        ++ in_rows (is_there squares.now) out (pos at) count rows) }
-{
-    for row in 0..rows {
-        add_row(squares, out, at, count, row, rectangles)?;
-    }
-    Ok(())
-}
-
-/// Puts those of a plane at the end of the list.
+/// Puts those of a plane at the end of the list, row by row.
 fn add_plane(
     alloc: Global,
     cells: &CellRows,
@@ -115,8 +94,10 @@ fn add_plane(
         (out.up(), out.right())
     };
     let count = cells.sizes().along(along);
-    let rows = cells.sizes().along(across);
-    add_rows(&squares, out, at, count, rows, rectangles)
+    for row in 0..cells.sizes().along(across) {
+        add_row(&squares, out, at, count, row, rectangles)?;
+    }
+    Ok(())
 }
 
 /// Puts the rectangles of one outward side at the end of the list, plane by plane.
