@@ -1,5 +1,5 @@
 -- What is told of bytes is told of a layer, what is told of each solid of a choice, and what is told of each layer of all.
-use Rattle.std.proofs.Common.{◌≡◌, ◌↔◌, ◌&&◌, Bool, true, false, ℕ, ◌+◌, ◌*◌, List, [], ◌∷◌, length, Option, Some, None, IsTrue, sym, subst, ◌∙◌}
+use Rattle.std.proofs.Common.{◌≡◌, ◌↔◌, ◌&&◌, Bool, true, false, ℕ, ◌+◌, ◌*◌, List, [], ◌∷◌, length, slice_index_or, Option, Some, None, IsTrue, refl, sym, subst, ◌∙◌}
 use Rattle.std.specs.Prelude.{MatchOption}
 use Rattle.std.proofs.lemmas.Bool.{and_parts, and_from, false≢true}
 use Rattle.lemmas.specs.Lists.{Each}
@@ -24,12 +24,13 @@ use Rattle.six_views.specs.SightFrames.{sight_frame}
 use Rattle.six_views.proofs.ShownCuts.{left_shown}
 use Rattle.six_views.proofs.SomeLeft.{some_left_cells}
 use Rattle.six_views.proofs.Turned.{sights_are_frames}
-use Rattle.fit_lanes.specs.Cuts.{AreLeftColumns, LayerKeeps}
+use Rattle.fit_lanes.specs.Cuts.{AreLeftOf, LayerKeeps}
 use Rattle.fit_lanes.specs.Drawn.{bytes_along, DrawnParts, DrawsChoice, DrawsNoLine, IsFirstLine, IsViewOf}
-use Rattle.fit_lanes.specs.Sights.{width, height, AreSeenColumns, AreSights}
+use Rattle.fit_lanes.specs.Sights.{width, height, AreSights}
 use Rattle.fit_lanes.specs.Tests.{AreDrawn, AreRunsAsked, LayerAsked, layers_asked, ShowsIn, TellsLayer}
 use Rattle.fit_lanes.specs.Wanted.{AreNeverDrawn, ArePlaced, AreWantedBytes, TellRuns, TellsPlaced, WantedParts}
-use Rattle.fit_lanes.proofs.LeftColumns.{filled_seen, left_seen}
+use Rattle.fit_lanes.proofs.LeftBits.{some_left}
+use Rattle.fit_lanes.proofs.LeftColumns.{filled_kept, left_seen, whole_seen}
 use Rattle.fit_lanes.proofs.Told.{none_shown, shows_told}
 
 -- ---- bytes that are wanted
@@ -99,12 +100,13 @@ none_tells a v of choice draws upright none = subst (λ (b : LayerAsked). TellsL
 
 -- of a layer without a cut it draws the solid itself; of one with a cut, the solid of the cells that are left
 pub draws_choice : (p : ProblemParts) (x : Layer) (kept : Option ℕ) → IsGrid p.grid → LayerKeeps (coordinates_of p.grid) x kept → (choice : List Bool) (sights : List (List Span))
-    → AreSights x (grid_sizes p.grid) p.blocks.numbers sights → (filled columns : List ℕ) → AreFilled choice sights filled → length filled ≡ length sights → length columns ≡ length filled
-    → MatchOption kept (columns ≡ filled) (λ depths. AreLeftColumns depths filled columns) → (level upright : List ℕ)
+    → AreSights x (grid_sizes p.grid) p.blocks.numbers kept sights → (columns : List ℕ) → AreFilled choice sights columns → length columns ≡ length sights
+    → (level upright : List ℕ)
     → length level ≡ (height x (grid_sizes p.grid) + 1) * (width x (grid_sizes p.grid) + 1) → length upright ≡ (height x (grid_sizes p.grid) + 1) * (width x (grid_sizes p.grid) + 1)
-    → AreDrawn columns (width x (grid_sizes p.grid) + 1) false level → AreDrawn columns (width x (grid_sizes p.grid) + 1) true upright
+    → ((left : List ℕ) → AreLeftOf kept columns left → AreDrawn left (width x (grid_sizes p.grid) + 1) false level)
+    → ((left : List ℕ) → AreLeftOf kept columns left → AreDrawn left (width x (grid_sizes p.grid) + 1) true upright)
     → DrawsChoice (record { problem = p; layer = x; level = level; upright = upright }) choice
-draws_choice p x None is whole choice sights are filled columns fill long same_long same level upright long_level long_upright level_drawn upright_drawn = record {
+draws_choice p x None is whole choice sights are columns fill long level upright long_level long_upright level_drawn upright_drawn = record {
   grid = is;
   cells = cells_of_choice p.blocks.numbers choice;
   stand = λ s fills. record {
@@ -116,7 +118,8 @@ draws_choice p x None is whole choice sights are filled columns fill long same_l
     );
   };
   columns = columns;
-  seen = subst (AreSeenColumns x (grid_sizes p.grid) (cells_of_choice p.blocks.numbers choice)) (sym same) (filled_seen x (grid_sizes p.grid) p.blocks.numbers sights are choice filled fill long);
+  seen = whole_seen x (grid_sizes p.grid) (cells_of_choice p.blocks.numbers choice) columns
+      (filled_kept x (grid_sizes p.grid) p.blocks.numbers None sights are choice columns fill long);
   long = long_of;
   drawn = drawn_of;
 }
@@ -126,9 +129,9 @@ draws_choice p x None is whole choice sights are filled columns fill long same_l
     long_of false = long_level
 
     drawn_of : (u : Bool) → AreDrawn columns (width x (grid_sizes p.grid) + 1) u (bytes_along u (record { problem = p; layer = x; level = level; upright = upright }))
-    drawn_of true = upright_drawn
-    drawn_of false = level_drawn
-draws_choice p x (Some depths) is (c, cut, keeps) choice sights are filled columns fill long same_long left level upright long_level long_upright level_drawn upright_drawn = record {
+    drawn_of true = upright_drawn columns (λ q l. refl)
+    drawn_of false = level_drawn columns (λ q l. refl)
+draws_choice p x (Some depths) is (c, cut, keeps) choice sights are columns fill long level upright long_level long_upright level_drawn upright_drawn = record {
   grid = is;
   cells = cells.0;
   stand = λ s fills.
@@ -142,9 +145,9 @@ draws_choice p x (Some depths) is (c, cut, keeps) choice sights are filled colum
               (λ shows. both.1 (subst (λ (o : Option Cut). ShowsCut o (sight_frame x) s shown x.view) cut shows)),
             );
       };
-  columns = columns;
-  seen = left_seen x (coordinates_of p.grid) c depths keeps (cells_of_choice p.blocks.numbers choice) cells.0 cells.1 filled columns
-      (filled_seen x (grid_sizes p.grid) p.blocks.numbers sights are choice filled fill long) left same_long;
+  columns = left.0;
+  seen = left_seen x (coordinates_of p.grid) c depths keeps (cells_of_choice p.blocks.numbers choice) cells.0 cells.1 columns left.0
+      (filled_kept x (grid_sizes p.grid) p.blocks.numbers (Some depths) sights are choice columns fill long) left.1 left.2;
   long = long_of;
   drawn = drawn_of;
 }
@@ -152,13 +155,16 @@ draws_choice p x (Some depths) is (c, cut, keeps) choice sights are filled colum
     cells : (kept : List Bool) × AreLeftCells c.area (sight_frame x).away (coordinates_of p.grid) keeps.gap (cells_of_choice p.blocks.numbers choice) kept
     cells = some_left_cells c.area (sight_frame x).away (coordinates_of p.grid) keeps.gap (cells_of_choice p.blocks.numbers choice)
 
+    left : (others : List ℕ) × AreLeftOf (Some depths) columns others × (length others ≡ length columns)
+    left = some_left (Some depths) keeps.fits columns
+
     long_of : (u : Bool) → length (bytes_along u (record { problem = p; layer = x; level = level; upright = upright })) ≡ (height x (grid_sizes p.grid) + 1) * (width x (grid_sizes p.grid) + 1)
     long_of true = long_upright
     long_of false = long_level
 
-    drawn_of : (u : Bool) → AreDrawn columns (width x (grid_sizes p.grid) + 1) u (bytes_along u (record { problem = p; layer = x; level = level; upright = upright }))
-    drawn_of true = upright_drawn
-    drawn_of false = level_drawn
+    drawn_of : (u : Bool) → AreDrawn left.0 (width x (grid_sizes p.grid) + 1) u (bytes_along u (record { problem = p; layer = x; level = level; upright = upright }))
+    drawn_of true = upright_drawn left.0 left.1
+    drawn_of false = level_drawn left.0 left.1
 
 -- a choice has a solid
 pub of_solids : (a : LayerAsked) → IsGrid a.problem.grid → (choice : List Bool) (told : Bool) → TellsLayer a choice told → IsTrue told ↔ ShowsIn a choice

@@ -1,16 +1,21 @@
 -- Points at which something may be drawn, and what is set at them.
-use Rattle.std.proofs.Common.{◌≡◌, Bool, true, false, ◌||◌, ◌==◌, ℕ, ◌+◌, ◌-◌, ◌<◌, ◌≤◌, List, [], ◌∷◌, ◌++◌, length, slice_index_or, get_or, set, inl, inr, replicate, refl, ap, sym, subst, ◌∙◌, arith}
+use Rattle.std.proofs.Common.{◌≡◌, Bool, true, false, ◌||◌, ◌==◌, ℕ, ◌+◌, ◌-◌, ◌*◌, ◌/◌, ◌%◌, ◌<◌, ◌≤◌, List, [], ◌∷◌, ◌++◌, length, slice_index_or, Option, get_or, set, inl, inr, replicate, refl, ap, sym, subst, ◌∙◌, arith}
 use Rattle.std.proofs.Math.Bool.{or-false}
-use Rattle.std.proofs.lemmas.Bool.{false≢true, cases_lt, cases_eq, ne_eqb, eqb-false, or_parts}
-use Rattle.std.proofs.lemmas.List.{length-replicate, length-set, get_or-replicate, get_or-set_same, get_or-set_other}
+use Rattle.std.proofs.lemmas.Bool.{false≢true, cases_lt, cases_eq, ne_eqb, eqb-false, eqb-true, or_parts, false_from_ne_true}
+use Rattle.std.proofs.lemmas.Nat.{div-mul-add, mod-mul-add, mod_below}
+use Rattle.std.proofs.lemmas.List.{get_or_past, length-replicate, length-set, get_or-replicate, get_or-set_same, get_or-set_other}
 use Rattle.lemmas.specs.Bits.{bits}
+use Rattle.lemmas.specs.Lists.{Each}
 use Rattle.lemmas.proofs.Lists.{each-weaker, each-push}
 use Rattle.cell_rows.specs.declared.span.Span.{Span}
 use Rattle.cell_rows.specs.Spans.{is_filled, is_among, AreFilled}
 use Rattle.cell_rows.proofs.FillablePlaces.{among_last}
 use Rattle.solid_model.specs.declared.segment.Style.TheVariants.{Blank}
 use Rattle.column_lanes.specs.Styles.{IsStyleByte}
-use Rattle.fit_lanes.specs.Busy.{IsBare, AreBusy, AreAlikeBeyond, AreBlankBeyond}
+use Rattle.fit_lanes.specs.Busy.{IsBare, AreBusy, AreAlikeBeyond, AreBlankBeyond, IsNoLater}
+use Rattle.fit_lanes.specs.Cuts.{AreLeftOf}
+use Rattle.fit_lanes.specs.Drawn.{DrawsLine}
+use Rattle.fit_lanes.specs.Kept.{AreBytesFor}
 use Rattle.fit_lanes.specs.Points.{places_before}
 use Rattle.fit_lanes.specs.Tests.{AreDrawn}
 use Rattle.fit_lanes.proofs.DrawnBytes.{no_bits}
@@ -106,6 +111,10 @@ abbrev pub IsDrawnAt : List ℕ → ℕ → Bool → ℕ → ℕ → Type 0
 IsDrawnAt columns stride upright p byte = IsStyleByte byte (bits (slice_index_or columns (p + stride) 0))
     (bits (slice_index_or columns (p + stride - places_before stride upright) 0))
 
+-- that of what is left of them
+abbrev pub IsLeftDrawn : Option ℕ → List ℕ → ℕ → Bool → ℕ → ℕ → Type 0
+IsLeftDrawn kept columns stride upright p byte = (left : List ℕ) → AreLeftOf kept columns left → IsDrawnAt left stride upright p byte
+
 -- at first nothing is drawn,
 pub blank_first : (points : List ℕ) (n : ℕ) (bytes : List ℕ) → bytes ≡ replicate {A = ℕ} n 0 → AreBlankBeyond points bytes
 blank_first points n bytes none p l out = ap (λ bs. slice_index_or bs p 0) none
@@ -123,3 +132,39 @@ all_drawn columns stride upright old points bytes are alike blank p l = by (is_a
     by : (b : Bool) → is_among points p ≡ b → IsDrawnAt columns stride upright p (slice_index_or bytes p 0)
     by true among = are.each p among
     by false out = (Blank, λ k t. alike p (omega (arith, l, are.count)) out t k, blank_still _ old points bytes are blank p l out)
+
+-- ---- before the first busy line
+
+each_among : (P : ℕ → Type 0) (points : List ℕ) → Each P points → (p : ℕ) → is_among points p ≡ true → P p
+each_among P [] each p among = absurd (false≢true among)
+each_among P (q ∷ points) (here, rest) p among = by (q == p) refl (λ some. each_among P points rest p some) among
+  where
+    by : (b : Bool) → (q == p) ≡ b → (is_among points p ≡ true → P p) → (b || is_among points p) ≡ true → P p
+    by true e later _ = subst P (eqb-true q p e) here
+    by false e later some = later some
+
+-- nothing is drawn
+pub none_before : (w h : ℕ) (upright : Bool) (points bytes : List ℕ) (first : ℕ) → AreBytesFor w h points bytes → IsNoLater (w + 1) upright points first
+    → (m : ℕ) → m < first → DrawsLine w h upright bytes m → ⊥
+none_before w h upright points bytes first are later = by upright later
+  where
+    blank_at : (p : ℕ) → (is_among points p ≡ true → ⊥) → slice_index_or bytes p 0 ≡ 0
+    blank_at p out = elim (cases_lt p (length bytes)) as (λ _. slice_index_or bytes p 0 ≡ 0) [
+      | inl l ↦ are.blank p l (false_from_ne_true (is_among points p) out)
+      | inr past ↦ get_or_past bytes p 0 past
+    ]
+
+    across : (m n : ℕ) → (m + n * (w + 1)) % (w + 1) ≤ m
+    across m n = elim (cases_lt m (w + 1)) as (λ _. (m + n * (w + 1)) % (w + 1) ≤ m) [
+      | inl l ↦ (let e = mod-mul-add n (w + 1) m l in let same : m + n * (w + 1) ≡ n * (w + 1) + m = omega arith in subst (λ k. k % (w + 1) ≤ m) (sym same) (omega (arith, e)))
+      | inr l ↦ (let less = mod_below (m + n * (w + 1)) (w + 1) (omega arith) in omega (arith, l, less))
+    ]
+
+    by : (u : Bool) → IsNoLater (w + 1) u points first → (m : ℕ) → m < first → DrawsLine w h u bytes m → ⊥
+    by true no_later m l (n, few, on) = on (blank_at (m + n * (w + 1)) (λ among.
+        let at = each_among (λ p. first ≤ p % (w + 1)) points no_later (m + n * (w + 1)) among in
+        let less = across m n in omega (arith, l, at, less)))
+    by false no_later m l (n, few, on) = on (blank_at (m * (w + 1) + n * 1) (λ among.
+        let at = each_among (λ p. first ≤ p / (w + 1)) points no_later (m * (w + 1) + n * 1) among in
+        let once : m * (w + 1) + n * 1 ≡ m * (w + 1) + n = omega arith in
+        let e = ap (λ k. k / (w + 1)) once ∙ div-mul-add m (w + 1) n few in omega (arith, l, at, e)))

@@ -1,5 +1,5 @@
 -- The columns of a choice, and what a cut leaves of them.
-use Rattle.std.proofs.Common.{◌≡◌, ◌↔◌, inl, inr, Bool, true, false, not, nat_lt, ℕ, ◌+◌, ◌-◌, ◌/◌, ◌%◌, ◌≤◌, ◌<◌, if◌then◌else◌, List, length, slice_index_or, Option, pos, refl, ap, sym, subst, ◌∙◌, arith}
+use Rattle.std.proofs.Common.{◌≡◌, ◌↔◌, ◌⊎◌, inl, inr, Bool, true, false, not, ◌&&◌, nat_lt, ℕ, ◌+◌, ◌-◌, ◌*◌, ◌/◌, ◌%◌, ◌≤◌, ◌<◌, if◌then◌else◌, List, length, slice_index_or, Option, Some, None, pos, refl, ap, sym, subst, ◌∙◌, arith}
 use Rattle.std.proofs.lemmas.Bool.{both_ways, and_parts, and_from, cases_lt, lt-ltb, ltb-true, false_from_ne_true, eqb-true, eq-eqb}
 use Rattle.lemmas.specs.Bits.{is_set}
 use Rattle.lemmas.proofs.Tests.{same_tests}
@@ -20,18 +20,44 @@ use Rattle.solid_model.specs.Grid.{Coordinates, GridCell, gaps_along}
 use Rattle.solid_model.specs.GridPlaces.{place_in, number_on, grid_cell_in}
 use Rattle.solid_model.specs.PerAxis.{numbered}
 use Rattle.solid_model.specs.WalledBoxes.{Sizes}
-use Rattle.fit_lanes.specs.Cuts.{is_kept, AreLeftColumns, IsLeftBit, KeepsDepths}
+use Rattle.fit_lanes.specs.Cuts.{is_kept, keeps, AreLeftOf, IsLeftBit, KeepsDepths, LieWithin}
 use Rattle.fit_lanes.specs.Sights.{width, height, AreSights, AreSeenColumns}
 use Rattle.fit_lanes.proofs.SightRows.{seen_from}
 
--- what is filled behind the points are the columns of the choice's cells
-pub filled_seen : (x : Layer) (sizes : Sizes) (numbers : List (Option ℕ)) (sights : List (List Span)) → AreSights x sizes numbers sights
-    → (choice : List Bool) (columns : List ℕ) → AreFilled choice sights columns → length columns ≡ length sights → AreSeenColumns x sizes (cells_of_choice numbers choice) columns
-filled_seen x sizes numbers sights are choice columns filled long = record {
+-- columns of these grid cells at the depths that are kept
+pub record AreKeptColumns (x : Layer) (sizes : Sizes) (chosen : List Bool) (kept : Option ℕ) (columns : List ℕ) : Type 0 where
+  pub count : length columns ≡ (height x sizes + 2) * (width x sizes + 1)
+  pub inside : (p : ℕ) → p < length columns → p % (width x sizes + 1) < width x sizes → 1 ≤ p / (width x sizes + 1) → p / (width x sizes + 1) ≤ height x sizes
+      → (k : ℕ) → is_set (slice_index_or columns p 0) k
+      ≡ (keeps kept k && grid_column (sight_frame x) sizes chosen (p % (width x sizes + 1)) (p / (width x sizes + 1) - 1) (pos k))
+  pub outside : (p : ℕ) → p < length columns → (width x sizes ≤ p % (width x sizes + 1)) ⊎ ((p / (width x sizes + 1) ≡ 0) ⊎ (height x sizes < p / (width x sizes + 1)))
+      → (k : ℕ) → is_set (slice_index_or columns p 0) k ≡ false
+
+-- what is filled behind the points are those of the choice's cells
+pub filled_kept : (x : Layer) (sizes : Sizes) (numbers : List (Option ℕ)) (kept : Option ℕ) (sights : List (List Span)) → AreSights x sizes numbers kept sights
+    → (choice : List Bool) (columns : List ℕ) → AreFilled choice sights columns → length columns ≡ length sights → AreKeptColumns x sizes (cells_of_choice numbers choice) kept columns
+filled_kept x sizes numbers kept sights are choice columns filled long = record {
   count = long ∙ are.count;
   inside = λ p l a b c k. (let m : p < length sights = omega (arith, l, long) in filled p k m ∙ (are.each p m).inside a b c choice k);
   outside = λ p l out k. (let m : p < length sights = omega (arith, l, long) in filled p k m ∙ ap (λ spans. is_filled choice spans k) ((are.each p m).outside out));
 }
+
+-- so they lie within those depths,
+pub kept_within : (x : Layer) (sizes : Sizes) (chosen : List Bool) (kept : Option ℕ) (columns : List ℕ) → AreKeptColumns x sizes chosen kept columns → LieWithin kept columns
+kept_within x sizes chosen kept columns are p l k on = elim (cases_lt (p % (width x sizes + 1)) (width x sizes)) as (λ _. keeps kept k ≡ true) [
+  | inl a ↦ elim (cases_lt (p / (width x sizes + 1)) 1) as (λ _. keeps kept k ≡ true) [
+    | inl none ↦ absurd (both_ways (is_set (slice_index_or columns p 0) k) (are.outside p l (inr (inl (let e : p / (width x sizes + 1) ≡ 0 = omega (arith, none) in e))) k) on)
+    | inr b ↦ elim (cases_lt (height x sizes) (p / (width x sizes + 1))) as (λ _. keeps kept k ≡ true) [
+      | inl out ↦ absurd (both_ways (is_set (slice_index_or columns p 0) k) (are.outside p l (inr (inr out)) k) on)
+      | inr c ↦ (and_parts (keeps kept k) _ (sym (are.inside p l a b c k) ∙ on)).0
+    ]
+  ]
+  | inr out ↦ absurd (both_ways (is_set (slice_index_or columns p 0) k) (are.outside p l (inl out) k) on)
+]
+
+-- and where nothing is cut they are all of them
+pub whole_seen : (x : Layer) (sizes : Sizes) (chosen : List Bool) (columns : List ℕ) → AreKeptColumns x sizes chosen None columns → AreSeenColumns x sizes chosen columns
+whole_seen x sizes chosen columns are = record { count = are.count; inside = are.inside; outside = are.outside }
 
 row_below : (q h : ℕ) → 1 ≤ q → q ≤ h → q - 1 < h
 row_below q h l m = omega arith
@@ -190,7 +216,7 @@ module _ (x : Layer) (coordinates : Coordinates) (c : Cut) (kept : ℕ) (keeps :
         )
 
     -- so the columns that are left are those of the cells that are left
-    column_left : (column left : ℕ) → ((k : ℕ) → is_set column k ≡ grid_column f sizes chosen i j (pos k))
+    column_left : (column left : ℕ) → ((k : ℕ) → is_set column k ≡ (is_set kept k && grid_column f sizes chosen i j (pos k)))
         → ((k : ℕ) → (is_set left k ≡ true) ↔ IsLeftBit kept column k) → (k : ℕ) → is_set left k ≡ grid_column f sizes cells i j (pos k)
     column_left column left seen are_left k = same_tests (is_set left k) (grid_column f sizes cells i j (pos k)) to from
       where
@@ -200,7 +226,8 @@ module _ (x : Layer) (coordinates : Coordinates) (c : Cut) (kept : ℕ) (keeps :
             let here = and_parts (nat_lt k depths) (is_kept c.area first k) (sym (keeps.bits k) ∙ b.0) in
             let n : ℕ = b.1.0 in
             let there = and_parts (nat_lt n depths) (is_kept c.area first n) (sym (keeps.bits n) ∙ b.1.2) in
-            let on = and_parts (nat_lt n depths) (full n) (sym (seen n) ∙ b.1.3) in
+            let both = and_parts (is_set kept n) (grid_column f sizes chosen i j (pos n)) (sym (seen n) ∙ b.1.3) in
+            let on = and_parts (nat_lt n depths) (full n) both.1 in
             let deep = ltb-true k depths here.0 in
             and_from (nat_lt k depths) _ here.0 ((are (cell k) (in_box sizes i j x.opposite x.view k l m deep)).1 (to_cell c.area k deep (here.1, (n, b.1.1, there.1, on.1))))
 
@@ -211,12 +238,13 @@ module _ (x : Layer) (coordinates : Coordinates) (c : Cut) (kept : ℕ) (keeps :
             let at = from_cell c.area k deep ((are (cell k) (in_box sizes i j x.opposite x.view k l m deep)).0 p.1) in
             let n : ℕ = at.1.0 in
             let near : nat_lt n depths ≡ true = lt-ltb n depths (omega (arith, at.1.1, deep)) in
+            let there : is_set kept n ≡ true = keeps.bits n ∙ and_from (nat_lt n depths) _ near at.1.2 in
             (are_left k).1 (
               keeps.bits k ∙ and_from (nat_lt k depths) _ p.0 at.0,
-              (n, at.1.1, keeps.bits n ∙ and_from (nat_lt n depths) _ near at.1.2, seen n ∙ and_from (nat_lt n depths) _ near at.1.3),
+              (n, at.1.1, there, seen n ∙ and_from (is_set kept n) _ there (and_from (nat_lt n depths) _ near at.1.3)),
             )
 
-  pub left_seen : (columns left : List ℕ) → AreSeenColumns x sizes chosen columns → AreLeftColumns kept columns left → length left ≡ length columns
+  pub left_seen : (columns left : List ℕ) → AreKeptColumns x sizes chosen (Some kept) columns → AreLeftOf (Some kept) columns left → length left ≡ length columns
       → AreSeenColumns x sizes cells left
   left_seen columns left seen are_left long = record {
     count = long ∙ seen.count;

@@ -1,8 +1,8 @@
 -- The spans of a row, seen from its near end, are those of a view's column.
-use Rattle.std.proofs.Common.{◌≡◌, ◌≢◌, ◌⊎◌, inl, inr, Bool, true, false, ◌&&◌, ◌||◌, ◌==◌, nat_lt, ℕ, ◌+◌, ◌-◌, ◌*◌, ◌%◌, ◌^◌, ◌<◌, ◌≤◌, if◌then◌else◌, List, ◌∷◌, [], ◌++◌, slice_index_or, bit_or, pos, w64, refl, ap, sym, subst, ◌∙◌, arith}
+use Rattle.std.proofs.Common.{◌≡◌, ◌≢◌, ◌⊎◌, inl, inr, Bool, true, false, ◌&&◌, ◌||◌, ◌==◌, nat_lt, ℕ, ◌+◌, ◌-◌, ◌*◌, ◌%◌, ◌^◌, ◌<◌, ◌≤◌, if◌then◌else◌, List, ◌∷◌, [], ◌++◌, slice_index_or, Option, bit_or, pos, w64, refl, ap, sym, subst, ◌∙◌, arith}
 use Rattle.std.proofs.lemmas.Bool.{cases_lt, lt-ltb, ltb-true, and_from}
 use Rattle.std.proofs.Math.Nat.{mul-le-mul}
-use Rattle.std.proofs.lemmas.Nat.Bits.{bit_at_set_same, bit_at_set_other}
+use Rattle.std.proofs.lemmas.Nat.Bits.{bit_at_set_same, bit_at_set_other, bit_at-zero}
 use Rattle.lemmas.specs.Bits.{is_set}
 use Rattle.cell_rows.specs.declared.span.Span.{Span}
 use Rattle.cell_rows.specs.Rows.{cell_numbered}
@@ -24,6 +24,7 @@ use Rattle.solid_model.specs.WalledBoxes.{Sizes, is_within, box_place, box_count
 use Rattle.column_laws.specs.GridColumns.{grid_column}
 use Rattle.dxf_entities.specs.declared.layer.Layer.{Layer}
 use Rattle.six_views.specs.SightFrames.{opposite_frame, sight_frame}
+use Rattle.fit_lanes.specs.Cuts.{keeps}
 
 -- ---- a row, bit by bit
 
@@ -78,6 +79,18 @@ seen_more choice xs ys one seen k n within same cells so_far =
     by true f c s = refl
     by false f true s = refl
     by false f false s = refl
+
+-- one of no cell can be left out
+pub bare_without : (choice : List Bool) (xs : List Span) (one : Span) (k : ℕ) → one.cells ≡ 0 → is_filled choice xs k ≡ is_filled choice (xs ++ one ∷ []) k
+bare_without choice xs one k none = sym (filled-last choice xs one k
+    ∙ ap (λ (n : ℕ). is_filled choice xs k || (is_chosen choice one.block && is_set n k)) none
+    ∙ ap (λ b. is_filled choice xs k || (is_chosen choice one.block && b)) (ap (λ b. b == 1) (bit_at-zero k))
+    ∙ by (is_filled choice xs k) (is_chosen choice one.block))
+  where
+    by : (f c : Bool) → (f || (c && false)) ≡ f
+    by true c = refl
+    by false true = refl
+    by false false = refl
 
 -- ---- the column of a view
 
@@ -172,13 +185,18 @@ module _ (x : Layer) (b : BlockNumbers) (n : PerAxis) (i j : ℕ) where
       pub row_within : is_within (numbered a 1 sizes) (cell_numbered a 0 n) ≡ true
       row_within = let o = other_sizes x.opposite x.view in same_within x.opposite x.view first l m 0 (numbered a 1 sizes) o.2 o.0 o.1
 
-      module _ (rows : List (List Span)) (of : AreRowSpans b a rows) (spans : List Span)
+      module _ (kept : Option ℕ) (rows : List (List Span)) (of : AreRowSpans b a rows) (spans : List Span)
           (seen : (choice : List Bool) (k : ℕ) → is_filled choice spans k
-          ≡ (nat_lt k (sizes a) && is_filled choice (slice_index_or rows (box_place (numbered a 1 sizes) (cell_numbered a 0 n)) []) (number_on sizes f.away k))) where
-        -- and what is seen of it is the view's column
-        pub column_seen : (choice : List Bool) (k : ℕ) → is_filled choice spans k ≡ grid_column f sizes (cells_of_choice b.numbers choice) i j (pos k)
-        column_seen choice k = seen choice k ∙ by (nat_lt k (sizes a)) refl
+          ≡ ((keeps kept k && nat_lt k (sizes a)) && is_filled choice (slice_index_or rows (box_place (numbered a 1 sizes) (cell_numbered a 0 n)) []) (number_on sizes f.away k))) where
+        -- and what is seen of it is the view's column, as far as it is kept
+        pub column_seen : (choice : List Bool) (k : ℕ) → is_filled choice spans k ≡ (keeps kept k && grid_column f sizes (cells_of_choice b.numbers choice) i j (pos k))
+        column_seen choice k = seen choice k ∙ each_of (keeps kept k) (nat_lt k (sizes a)) (is_filled choice row (number_on sizes f.away k))
+            ∙ ap (λ s. keeps kept k && s) (by (nat_lt k (sizes a)) refl)
           where
+            each_of : (s t u : Bool) → ((s && t) && u) ≡ (s && (t && u))
+            each_of true t u = refl
+            each_of false t u = refl
+
             row : List Span
             row = slice_index_or rows (box_place (numbered a 1 sizes) (cell_numbered a 0 n)) []
 

@@ -1,5 +1,5 @@
 -- What a cut leaves of columns of cells, as bits.
-use Rattle.std.specs.Prelude.{◌≡◌, ◌↔◌, ◌≤◌, ◌<◌, ◌&&◌, ◌==◌, not, nat_lt, Bool, true, false, ℕ, List, length, slice_index_or, Option, Some, None}
+use Rattle.std.specs.Prelude.{◌≡◌, ◌↔◌, ◌^◌, ◌≤◌, ◌<◌, ◌&&◌, ◌==◌, not, nat_lt, Bool, true, false, ℕ, List, length, slice_index_or, Option, Some, None}
 use Rattle.dxf_entities.specs.declared.layer.Cut.{Cut}
 use Rattle.dxf_entities.specs.declared.layer.Layer.{Layer}
 use Rattle.lemmas.specs.Bits.{is_set}
@@ -17,17 +17,35 @@ is_kept false first k = not (nat_lt k first)
 abbrev pub AreKept : Bool → ℕ → ℕ → ℕ → Type 0
 AreKept area first depths kept = (k : ℕ) → is_set kept k ≡ (nat_lt k depths && is_kept area first k)
 
+-- where these depths are told they alone are kept, else all
+abbrev pub keeps : Option ℕ → ℕ → Bool
+keeps None k = true
+keeps (Some kept) k = is_set kept k
+
 -- a depth that is kept is left of a column where it, or a nearer one that is kept too, is full
 abbrev pub IsLeftBit : ℕ → ℕ → ℕ → Type 0
 IsLeftBit kept column k = (is_set kept k ≡ true) × ((m : ℕ) × (m ≤ k) × (is_set kept m ≡ true) × (is_set column m ≡ true))
 
+-- a column that is left of another one, itself where nothing is cut
+abbrev pub IsLeftOf : Option ℕ → ℕ → ℕ → Type 0
+IsLeftOf None column left = left ≡ column
+IsLeftOf (Some kept) column left = (k : ℕ) → (is_set left k ≡ true) ↔ IsLeftBit kept column k
+
 -- columns that are left of others
-abbrev pub AreLeftColumns : ℕ → List ℕ → List ℕ → Type 0
-AreLeftColumns kept columns left = (p : ℕ) → p < length columns
-    → (k : ℕ) → (is_set (slice_index_or left p 0) k ≡ true) ↔ IsLeftBit kept (slice_index_or columns p 0) k
+abbrev pub AreLeftOf : Option ℕ → List ℕ → List ℕ → Type 0
+AreLeftOf kept columns left = (p : ℕ) → p < length columns → IsLeftOf kept (slice_index_or columns p 0) (slice_index_or left p 0)
+
+-- a column has no cell but at depths that are kept
+abbrev pub LiesWithin : Option ℕ → ℕ → Type 0
+LiesWithin kept column = (k : ℕ) → is_set column k ≡ true → keeps kept k ≡ true
+
+-- each of these columns
+abbrev pub LieWithin : Option ℕ → List ℕ → Type 0
+LieWithin kept columns = (p : ℕ) → p < length columns → LiesWithin kept (slice_index_or columns p 0)
 
 -- the bits of the depths that a cut keeps, seen as a layer
 pub record KeepsDepths (coordinates : Coordinates) (x : Layer) (c : Cut) (kept : ℕ) : Type 0 where
+  pub fits : kept < 2 ^ 64
   pub gap : ℕ
   pub left_from : IsLeftFrom (sight_frame x) coordinates c.at c.area gap
   pub bits : AreKept c.area (number_on (gaps_along coordinates) (sight_frame x).away gap) (gaps_along coordinates (sight_frame x).away.axis) kept

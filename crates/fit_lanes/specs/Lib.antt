@@ -1,7 +1,7 @@
+pub mod Cuts
 pub mod Sights
 pub mod Points
 pub mod Busy
-pub mod Cuts
 pub mod Tests
 pub mod Drawn
 pub mod Wanted

@@ -2,8 +2,9 @@
 //! most points no block stands, so that no choice draws anything there.
 
 ghost use Rattle.std.specs.Prelude.{◌≡◌, ◌≤◌, ◌<◌, ◌+◌, ◌-◌, [], length, slice_index_or, IsTrue, IfOk};
-ghost use Rattle.fit_lanes.specs.Busy.{IsBare, AreBusy};
+ghost use Rattle.fit_lanes.specs.Busy.{IsBare, AreBusy, IsNoLater};
 
+use crate::points::across_of;
 use cell_rows::RowSpans;
 use solid_model::Memory;
 use std::alloc::Global;
@@ -31,6 +32,18 @@ fn is_bare(sights: &RowSpans, stride: usize, after: usize) -> bool
         return false;
     }
     is_empty(sights, after - stride)
+}
+
+/// The first upright, or level, line on which one of some points stands, in rows of so many.
+pub fn first_busy(points: &[usize], stride: usize, upright: bool) -> usize
+    requires { 1 ≤ stride }
+    ensures { IsNoLater stride upright points.now result }
+{
+    let mut first = usize::MAX;
+    for point in points {
+        first = first.min(across_of(upright, *point % stride, *point / stride));
+    }
+    first
 }
 
 /// The points of which that isn't so, in rows of so many.

@@ -1,14 +1,16 @@
 //! What a cut leaves of columns of cells, as bits: bit 0 is the nearest cell.
 
-ghost use Rattle.std.specs.Prelude.{◌≡◌, ◌↔◌, ◌≤◌, true, ℕ, length, IfSome, MatchOption};
-ghost use Rattle.fit_lanes.specs.Cuts.{is_kept, AreKept, AreLeftColumns, IsLeftBit, KeepsDepths};
-ghost use Rattle.lemmas.specs.Bits.{is_set};
+ghost use Rattle.std.specs.Prelude.{◌≡◌, ◌≤◌, ◌&&◌, ℕ, Some, IfSome};
+ghost use Rattle.fit_lanes.specs.Cuts.{is_kept, keeps, AreKept, IsLeftOf, KeepsDepths, LiesWithin};
+ghost use Rattle.lemmas.specs.Bits.{bits, is_set};
+ghost use Rattle.solid_model.specs.Columns.{ColumnsDraw};
 ghost use Rattle.solid_model.specs.Panels.{coordinates_of};
 
+use column_lanes::{Column, style_of};
 use further_views::{Cut, Layer};
 use section_laws::cut_gap;
 use six_views::sight_frame;
-use solid_model::{Axis, Grid, number_on};
+use solid_model::{Axis, Grid, Style, number_on};
 
 /// A depth is kept: each from the first one on, or that one alone where an area is cut there.
 fn is_kept(area: bool, first: usize, depth: usize) -> bool
@@ -47,25 +49,40 @@ pub fn kept_depths(grid: &Grid, layer: Layer, cut: Cut) -> Option<u64>
     Some(kept_bits(cut.area, first, sizes.along(frame.away.axis)))
 }
 
-/// What is left of a column: at depths that are kept each full cell and all behind it.
-fn left_column(kept: u64, column: u64) -> u64
-    ensures { (k : ℕ) → (is_set result k ≡ true) ↔ IsLeftBit kept column k }
+/// Those of a row's cells that are kept; all where no depths are told.
+pub fn kept_cells(kept: Option<u64>, cells: u64) -> u64
+    ensures { (k : ℕ) → is_set result k ≡ (keeps kept k && is_set cells k) }
 {
-    let rest = column & kept;
-    let near = rest ^ rest.wrapping_sub(1);
-    rest | (kept & !near)
+    match kept {
+        Some(depths) => depths & cells,
+        None => cells,
+    }
 }
 
-/// Leaves of each column what is kept; all where no depths are told.
-pub fn leave(kept: Option<u64>, columns: &mut [u64])
-    ensures count { length columns.new ≡ length columns.old }
-    ensures left { MatchOption kept (columns.new ≡ columns.old)
-        (λ depths. AreLeftColumns depths columns.old columns.new) }
+/// The style that two columns draw on the segment between them where all behind the first full
+/// depth of each is full, as far as it is kept: no edge is hidden.
+fn left_style(after: Column, before: Column) -> Style
+    ensures { (kept a b : ℕ) → LiesWithin (Some kept) after.0 → LiesWithin (Some kept) before.0
+        → IsLeftOf (Some kept) after.0 a → IsLeftOf (Some kept) before.0 b
+        → ColumnsDraw (bits a) (bits b) result }
 {
-    let Some(depths) = kept else {
-        return;
-    };
-    for place in 0..columns.len() {
-        columns[place] = left_column(depths, columns[place]);
+    if after.0.trailing_zeros() == before.0.trailing_zeros() {
+        Style::Blank
+    } else {
+        Style::Solid
+    }
+}
+
+/// The style that what is left of two columns draws on the segment between them; that of the
+/// columns where no depths are told.
+pub fn style_between(kept: Option<u64>, after: Column, before: Column) -> Style
+    requires after { LiesWithin kept after.0 }
+    requires before { LiesWithin kept before.0 }
+    ensures { (a b : ℕ) → IsLeftOf kept after.0 a → IsLeftOf kept before.0 b
+        → ColumnsDraw (bits a) (bits b) result }
+{
+    match kept {
+        Some(_) => left_style(after, before),
+        None => style_of(after, before),
     }
 }

@@ -1,11 +1,6 @@
 //! What a layer's view draws of choices.
 
-ghost use Rattle.std.specs.Prelude.{◌≡◌, ℕ, List, length, MatchOption};
-ghost use Rattle.cell_rows.specs.Spans.{AreFilled};
-ghost use Rattle.fit_lanes.specs.Cuts.{LayerKeeps, AreLeftColumns};
-
-use crate::busy_points::busy_points;
-use crate::cuts::leave;
+use crate::busy_points::{busy_points, first_busy};
 use crate::points::{draw, first_line};
 use crate::sights::sights;
 use cell_rows::{BlockRows, RowSpans};
@@ -26,6 +21,8 @@ pub struct DrawnView<'a> {
     height: usize,
     sights: RowSpans,
     busy: Vec<usize>,
+    first_right: usize,
+    first_up: usize,
     columns: Vec<u64>,
     level: Vec<u8>,
     upright: Vec<u8>,
@@ -45,24 +42,12 @@ impl<'a> Model for DrawnView<'a> {
     } };
 
     ghost invariant = { λ s. AreBuffersOf s.problem.now s.layer s.kept s.width s.height s.sights
-        s.busy.items s.columns.items s.level.items s.upright.items };
-}
-
-/// Puts in columns what a choice fills behind the points, as far as it is left.
-fn fill_left(sights: &RowSpans, kept: Option<u64>, choice: &Choice, columns: &mut [u64])
-    requires { length columns.old ≡ length sights.now }
-    ensures count { length columns.new ≡ length columns.old }
-    ensures left { (filled : List ℕ) × AreFilled choice.now sights.now filled
-        × (length filled ≡ length columns.old)
-        × MatchOption kept (columns.new ≡ filled)
-        (λ kept. AreLeftColumns kept filled columns.new) }
-{
-    sights.fill(choice, columns);
-    leave(kept, columns);
+        s.busy.items s.first_right s.first_up s.columns.items s.level.items s.upright.items };
 }
 
 impl<'a> DrawnView<'a> {
     ghost use Rattle.std.specs.Prelude.{◌≡◌, IfOk};
+    ghost use Rattle.fit_lanes.specs.Cuts.{LayerKeeps};
     ghost use Rattle.fit_lanes.specs.Drawn.{IsViewOf};
     ghost use Rattle.solid_model.specs.Panels.{coordinates_of};
 
@@ -85,8 +70,10 @@ impl<'a> DrawnView<'a> {
         let frame = sight_frame(layer);
         let (width, height) = (sizes.along(frame.right.axis), sizes.along(frame.up.axis));
         let points = (height + 1) * (width + 1);
-        let sights = sights(alloc, rows, sizes, layer)?;
+        let sights = sights(alloc, rows, sizes, layer, kept)?;
         let busy = busy_points(alloc, &sights, width + 1)?;
+        let first_right = first_busy(busy.as_slice(), width + 1, true);
+        let first_up = first_busy(busy.as_slice(), width + 1, false);
         let columns = vec![in alloc; 0; sights.count()]?;
         let level = vec![in alloc; 0; points]?;
         let upright = vec![in alloc; 0; points]?;
@@ -98,6 +85,8 @@ impl<'a> DrawnView<'a> {
             height,
             sights,
             busy,
+            first_right,
+            first_up,
             columns,
             level,
             upright,
@@ -117,13 +106,13 @@ impl DrawnView<'_> {
         ensures drawn { DrawsChoice self.new choice.now }
     {
         let columns = self.columns.as_mut_slice();
-        fill_left(&self.sights, self.kept, choice, columns);
+        self.sights.fill(choice, columns);
         let (columns, points) = (self.columns.as_slice(), self.busy.as_slice());
         let stride = self.width + 1;
         let level = self.level.as_mut_slice();
-        draw(columns, stride, false, points, level);
+        draw(self.kept, columns, stride, false, points, level);
         let upright = self.upright.as_mut_slice();
-        draw(columns, stride, true, points, upright);
+        draw(self.kept, columns, stride, true, points, upright);
     }
 
     /// The bytes of the level, or the upright, segments that are drawn.
@@ -147,6 +136,11 @@ impl DrawnView<'_> {
             (height self.now.layer (grid_sizes self.now.problem.grid)) upright
             (bytes_along upright self.now)) }
     {
-        first_line(self.bytes(upright), self.width, self.height, upright)
+        let from = if upright {
+            self.first_right
+        } else {
+            self.first_up
+        };
+        first_line(self.bytes(upright), self.width, self.height, upright, from)
     }
 }

@@ -1,14 +1,16 @@
 //! What is drawn on the segments that begin at the points of a view's grid, as bytes.
 
-ghost use Rattle.std.specs.Prelude.{◌≡◌, ◌≤◌, ◌<◌, ◌+◌, ◌↔◌, length, IsTrue, IfOk, MatchOption};
+ghost use Rattle.std.specs.Prelude.{◌≡◌, ◌≤◌, ◌<◌, ◌+◌, ◌↔◌, ℕ, List, length, IsTrue, IfOk, MatchOption};
 ghost use Rattle.fit_lanes.specs.Busy.{AreAlikeBeyond, AreBlankBeyond};
+ghost use Rattle.fit_lanes.specs.Cuts.{AreLeftOf, LieWithin};
 ghost use Rattle.fit_lanes.specs.Points.{point_byte, ArePointBytes};
 ghost use Rattle.fit_lanes.specs.Drawn.{DrawsFrom, DrawsLine, DrawsNoLine, IsFirstLine};
 ghost use Rattle.fit_lanes.specs.Tests.{AreDrawn};
 ghost use Rattle.lemmas.specs.Lists.{Each};
 ghost use Rattle.solid_model.specs.Segments.{across_of};
 
-use column_lanes::{Column, style_byte, style_of};
+use crate::cuts::style_between;
+use column_lanes::{Column, style_byte};
 use solid_model::{Memory, Style};
 use std::alloc::Global;
 
@@ -63,9 +65,17 @@ pub fn point_bytes(
     Ok(bytes)
 }
 
-/// Puts the bytes of the styles that columns draw on the segments that begin at these points, where
-/// beyond them the columns are the same, and nothing was drawn.
-pub fn draw(columns: &[u64], stride: usize, upright: bool, points: &[usize], drawn: &mut [u8])
+/// Puts the bytes of the styles that what is left of columns draws on the segments that begin at
+/// these points, where beyond them the columns are the same, and nothing was drawn.
+pub fn draw(
+    kept: Option<u64>,
+    columns: &[u64],
+    stride: usize,
+    upright: bool,
+    points: &[usize],
+    drawn: &mut [u8],
+)
+    requires within { LieWithin kept columns.now }
     requires stride { 1 ≤ stride }
     requires enough { length columns.now ≡ length drawn.old + stride }
     requires inside { Each (λ p. p < length drawn.old) points.now }
@@ -73,12 +83,14 @@ pub fn draw(columns: &[u64], stride: usize, upright: bool, points: &[usize], dra
     requires blank { AreBlankBeyond points.now drawn.old }
     ensures length { length drawn.new ≡ length drawn.old }
     ensures blank { AreBlankBeyond points.now drawn.new }
-    ensures drawn { AreDrawn columns.now stride upright drawn.new }
+    ensures drawn { (left : List ℕ) → AreLeftOf kept columns.now left
+        → AreDrawn left stride upright drawn.new }
 {
     let before = if upright { 1 } else { stride };
     for point in points {
         let after = *point + stride;
-        let style = style_of(Column(columns[after]), Column(columns[after - before]));
+        let (column, other) = (Column(columns[after]), Column(columns[after - before]));
+        let style = style_between(kept, column, other);
         drawn[*point] = style_byte(style);
     }
 }
@@ -125,14 +137,21 @@ fn draws_line(drawn: &[u8], width: usize, height: usize, upright: bool, line: us
     }
 }
 
-/// The first of these lines on which something is drawn.
-pub fn first_line(drawn: &[u8], width: usize, height: usize, upright: bool) -> Option<usize>
+/// The first of these lines on which something is drawn, where nothing is before this one.
+pub fn first_line(
+    drawn: &[u8],
+    width: usize,
+    height: usize,
+    upright: bool,
+    from: usize,
+) -> Option<usize>
     requires width { width ≤ 63 }
     requires height { height ≤ 63 }
+    requires from { (m : ℕ) → m < from → DrawsLine width height upright drawn.now m → ⊥ }
     ensures { MatchOption result (DrawsNoLine width height upright drawn.now)
         (IsFirstLine width height upright drawn.now) }
 {
-    for line in 0..across_of(upright, width, height) + 1 {
+    for line in from..across_of(upright, width, height) + 1 {
         if draws_line(drawn, width, height, upright, line) {
             return Some(line);
         }

@@ -34,6 +34,7 @@ returns c =
     ∙ (λ t. number_on (c.sizes-sizes.ensures.sizes t) (c.sight_frame-frame.ensures t).away c.in-Some.gap) in
     let deep : c.along.result ≡ gaps_along coordinates (sight_frame x).away.axis = c.along.ensures ∙ (λ t. c.sizes-sizes.ensures.sizes t (c.sight_frame-frame.ensures t).away.axis) in
     record {
+      fits = search rules;
       gap = c.in-Some.gap;
       left_from = left;
       bits = subst (λ n. AreKept c.args.cut.area n (gaps_along coordinates (sight_frame x).away.axis) c.kept_bits.result) first

@@ -1,5 +1,5 @@
 -- The row of the view's cells stands at its place, and what is seen of it is their column.
-use Rattle.std.proofs.Common.{◌≡◌, ◌&&◌, ◌<◌, ◌≤◌, nat_lt, Bool, true, ℕ, List, [], slice_index_or, pos, ap, sym, subst, ◌∙◌, arith}
+use Rattle.std.proofs.Common.{◌≡◌, ◌&&◌, ◌<◌, ◌≤◌, nat_lt, Bool, true, ℕ, List, [], slice_index_or, Option, pos, ap, sym, subst, ◌∙◌, arith}
 use Rattle.std.proofs.lemmas.Result.{IfOk-weaker}
 use Rattle.cell_rows.specs.declared.span.Span.{Span}
 use Rattle.cell_rows.specs.Spans.{is_filled, AreRowSpans}
@@ -15,6 +15,7 @@ use Rattle.solid_model.specs.WalledBoxes.{is_within, box_place, box_count}
 use Rattle.column_laws.specs.GridColumns.{grid_column}
 use Rattle.dxf_entities.specs.declared.layer.Layer.{Layer}
 use Rattle.six_views.specs.SightFrames.{sight_frame}
+use Rattle.fit_lanes.specs.Cuts.{keeps}
 use Rattle.fit_lanes.proofs.SightRows.{first_cell, row_within, column_seen, few_numbered}
 use Rattle.fit_lanes.proofs.sights.sight.Goals as goal
 
@@ -38,17 +39,17 @@ within : (x : Layer) (b : BlockNumbers) (i j : ℕ) → Within x i j b.sizes
 within x b i j n first l m few =
     subst (λ c. is_within (numbered (sight_frame x).away.axis 1 (numbers_of b.sizes)) c ≡ true) (sym (first_cell x b n i j first)) (row_within x b n i j first l m few)
 
-abbrev Seen : Layer → BlockNumbers → ℕ → ℕ → PerAxis → Type 0
-Seen x b i j sizes = (n : PerAxis) → numbers_of n ≡ numbered (sight_frame x).away.axis 0 (grid_cell_in (sight_frame x) (numbers_of sizes) i j 0)
+abbrev Seen : Layer → Option ℕ → BlockNumbers → ℕ → ℕ → PerAxis → Type 0
+Seen x kept b i j sizes = (n : PerAxis) → numbers_of n ≡ numbered (sight_frame x).away.axis 0 (grid_cell_in (sight_frame x) (numbers_of sizes) i j 0)
     → i < numbers_of sizes (sight_frame x).right.axis → j < numbers_of sizes (sight_frame x).up.axis → numbers_of sizes (sight_frame x).away.axis ≤ 63
     → (rows : List (List Span)) → AreRowSpans b (sight_frame x).away.axis rows → (spans : List Span)
-    → ((choice : List Bool) (k : ℕ) → is_filled choice spans k ≡ (nat_lt k (numbers_of sizes (sight_frame x).away.axis)
+    → ((choice : List Bool) (k : ℕ) → is_filled choice spans k ≡ ((keeps kept k && nat_lt k (numbers_of sizes (sight_frame x).away.axis))
     && is_filled choice (slice_index_or rows (box_place (numbered (sight_frame x).away.axis 1 (numbers_of sizes)) (cell_of n)) []) (number_on (numbers_of sizes) (sight_frame x).away k)))
-    → (choice : List Bool) (k : ℕ) → is_filled choice spans k ≡ grid_column (sight_frame x) (numbers_of sizes) (cells_of_choice b.numbers choice) i j (pos k)
+    → (choice : List Bool) (k : ℕ) → is_filled choice spans k ≡ (keeps kept k && grid_column (sight_frame x) (numbers_of sizes) (cells_of_choice b.numbers choice) i j (pos k))
 
-seen : (x : Layer) (b : BlockNumbers) (i j : ℕ) → Seen x b i j b.sizes
-seen x b i j n first l m few rows of spans are = column_seen x b n i j first l m few rows of spans
-    (λ choice k. are choice k ∙ ap (λ (c : Cell). nat_lt k (numbers_of b.sizes (sight_frame x).away.axis)
+seen : (x : Layer) (kept : Option ℕ) (b : BlockNumbers) (i j : ℕ) → Seen x kept b i j b.sizes
+seen x kept b i j n first l m few rows of spans are = column_seen x b n i j first l m few kept rows of spans
+    (λ choice k. are choice k ∙ ap (λ (c : Cell). (keeps kept k && nat_lt k (numbers_of b.sizes (sight_frame x).away.axis))
     && is_filled choice (slice_index_or rows (box_place (numbered (sight_frame x).away.axis 1 (numbers_of b.sizes)) c) []) (number_on (numbers_of b.sizes) (sight_frame x).away k))
     (first_cell x b n i j first))
 
@@ -83,6 +84,6 @@ returns c = IfOk-weaker c.seen_spans.result _ _ (λ spans told.
     c.place-place.ensures.place ∙ ap (λ (n : Axis → ℕ). box_place n (cell_of c.numbered-cell.result)) boxed in
     let row : c.row.result.now ≡ slice_index_or rows (box_place (numbered (sight_frame x).away.axis 1 (numbers_of c.args.sizes)) (cell_of c.numbered-cell.result)) [] =
     c.row.ensures ∙ ap (λ p. slice_index_or rows p []) place in
-    subst (Seen x c.args.rows.now c.args.right c.args.up) (sym c.requires.sizes) (seen x c.args.rows.now c.args.right c.args.up) c.numbered-cell.result first c.requires.right c.requires.up
+    subst (Seen x c.args.kept c.args.rows.now c.args.right c.args.up) (sym c.requires.sizes) (seen x c.args.kept c.args.rows.now c.args.right c.args.up) c.numbered-cell.result first c.requires.right c.requires.up
     (c.requires.few (sight_frame x).away.axis) rows (subst (λ (a : Axis). AreRowSpans c.args.rows.now a rows) (λ t. (e t).away.axis) c.along.ensures.spans) spans.items
-    (λ choice k. told choice k ∙ (λ t. nat_lt k (numbers_of c.args.sizes (e t).away.axis) && is_filled choice (row t) (number_on (numbers_of c.args.sizes) (e t).away k)))) c.seen_spans.ensures
+    (λ choice k. told choice k ∙ (λ t. (keeps c.args.kept k && nat_lt k (numbers_of c.args.sizes (e t).away.axis)) && is_filled choice (row t) (number_on (numbers_of c.args.sizes) (e t).away k)))) c.seen_spans.ensures

@@ -1,5 +1,5 @@
 -- The view keeps what its buffers are for.
-use Rattle.std.proofs.Common.{◌≡◌, ◌+◌, ◌*◌, ◌≤◌, ℕ, List, length, ap, sym, subst, ◌∙◌, arith}
+use Rattle.std.proofs.Common.{◌≡◌, ◌+◌, ◌*◌, ◌≤◌, true, false, ℕ, List, length, ap, sym, subst, ◌∙◌, arith}
 use Rattle.cell_rows.specs.declared.span.Span.{Span}
 use Rattle.solid_model.specs.declared.cell.Axis.{Axis}
 use Rattle.solid_model.specs.declared.cell.Axis.TheVariants.{X, Y, Z}
@@ -8,6 +8,7 @@ use Rattle.solid_model.specs.Blocks.{BlockNumbers}
 use Rattle.solid_model.specs.GridBox.{grid_sizes}
 use Rattle.solid_model.specs.Panels.{IsGrid}
 use Rattle.solid_model.specs.PerAxis.{numbers_of}
+use Rattle.fit_lanes.specs.Busy.{IsNoLater}
 use Rattle.fit_lanes.specs.Sights.{AreSights, width, height}
 use Rattle.fit_lanes.proofs.BusyPoints.{busy_all, blank_first}
 use Rattle.fit_lanes.proofs.Told.{rows_more}
@@ -45,9 +46,11 @@ invariant_of-result c =
       high = high;
       few_wide = subst (λ n. n ≤ 63) (sym c.along-width.ensures) (c.sizes-sizes.ensures.few c.sight_frame-frame.result.right.axis);
       few_high = subst (λ n. n ≤ 63) (sym c.along-height.ensures) (c.sizes-sizes.ensures.few c.sight_frame-frame.result.up.axis);
-      sights_of = subst (λ (b : BlockNumbers). AreSights x (grid_sizes p.grid) b.numbers spans) c.requires.rows
-          (subst (λ (n : Axis → ℕ). AreSights x n c.args.rows.now.numbers spans) sizes c.in_ok-sights.ensures);
+      sights_of = subst (λ (b : BlockNumbers). AreSights x (grid_sizes p.grid) b.numbers c.args.kept spans) c.requires.rows
+          (subst (λ (n : Axis → ℕ). AreSights x n c.args.rows.now.numbers c.args.kept spans) sizes c.in_ok-sights.ensures);
       busy = busy_all spans (w + 1) busy _ _ (omega (arith, count, rows_more h w)) c.in_ok-busy.ensures;
+      right_of = subst (λ ps. IsNoLater (w + 1) true ps c.first_busy-first_right.result) c.as_slice.ensures.value c.first_busy-first_right.ensures;
+      up_of = subst (λ ps. IsNoLater (w + 1) false ps c.first_busy-first_up.result) c.as_slice-2.ensures.value c.first_busy-first_up.ensures;
       columns_for = columns;
       level_for = record { long = level; blank = blank_first busy _ c.in_ok-level.level.items (c.in_ok-level.ensures.items_if_clones_equal (λ y same. same)) };
       upright_for = record { long = upright; blank = blank_first busy _ c.in_ok-upright.upright.items (c.in_ok-upright.ensures.items_if_clones_equal (λ y same. same)) };
