@@ -1,41 +1,36 @@
 -- The linetypes that entries give layers.
-use Rattle.std.proofs.Common.{◌≡◌, ℕ, ◌+◌, ◌<◌, Bool, true, false, List, [], ◌∷◌, ◌++◌, length, drop, get_or, Option, Some, None, if◌then◌else◌, refl, sym, ap, ◌∙◌}
+use Rattle.std.proofs.Common.{◌≡◌, Bool, true, false, Option, Some, None, if◌then◌else◌, refl, sym, ap, ◌∙◌}
+use Rattle.std.specs.BTreeMap.{BTreeMap, Updates, get}
 use Rattle.std.specs.Option.{is_some, option_or, unwrap_or}
-use Rattle.std.proofs.lemmas.List.{drop_more}
 use Rattle.dxf_entities.specs.declared.layer.Layer.{Layer}
-use Rattle.dxf_entities.specs.declared.layers.LayerEntry.{LayerEntry}
 use Rattle.dxf_entities.specs.declared.linetype.Linetype.{Linetype}
 use Rattle.dxf_entities.specs.declared.linetype.Linetype.TheVariants.{Continuous}
 use Rattle.dxf_entities.specs.declared.named.Named.{Named}
 use Rattle.dxf_entities.specs.declared.named.Named.TheVariants.{Unread, Shows, Misnamed}
+use Rattle.dxf_entities.specs.LayerKeys.{LayerKey, key_order, layer_key}
 use Rattle.dxf_entities.specs.Reading.{layers_with, same_layer}
-use Rattle.dxf_entities.specs.Resuming.{entry_linetype}
+use Rattle.dxf_entities.proofs.LayerKeys.{keys_differ, layers_differ}
 use Rattle.dxf_entities.proofs.OwnFacts.{or_nothing}
 use Rattle.dxf_entities.proofs.SameLayers.{layers_are_one}
 
--- an entry of the layer gives its linetype, where none before it is one of the layer
-pub entry_found : (es : List LayerEntry) (i : ℕ) (d : LayerEntry) (l : Layer) → i < length es
-    → entry_linetype (drop i es) l ≡ entry_linetype es l → same_layer l (get_or es i d).layer ≡ true
-    → Some (get_or es i d).linetype ≡ entry_linetype es l
-entry_found es i d l within same is =
-    let e = get_or es i d in
-    sym (ap (λ (b : Bool). if b then Some e.linetype else entry_linetype (drop (i + 1) es) l) is)
-    ∙ (sym (ap (λ es. entry_linetype es l) (drop_more es i d within)) ∙ same)
+pub nothing_known : {A : Type 0} (known : Option A) → is_some known ≡ false → known ≡ None
+nothing_known None e = refl
+nothing_known (Some x) e = absurd cc
 
 -- one more entry counts where the layer has none
-pub entry_pushed : (es : List LayerEntry) (e : LayerEntry) (l : Layer) → entry_linetype (es ++ e ∷ []) l
-    ≡ option_or (entry_linetype es l) (if same_layer l e.layer then Some e.linetype else None)
-entry_pushed [] e l = refl
-entry_pushed (x ∷ es) e l = by (same_layer l x.layer) (entry_pushed es e l)
+pub linetype_added : (old new : BTreeMap LayerKey Linetype) (m : Layer) (t : Linetype)
+    → Updates key_order old new (layer_key m) (Some t) → get key_order old (layer_key m) ≡ None
+    → (l : Layer) → get key_order new (layer_key l)
+    ≡ option_or (get key_order old (layer_key l)) (if same_layer l m then Some t else None)
+linetype_added old new m t updates none l = by (same_layer l m) refl
   where
-    more : Option Linetype
-    more = if same_layer l e.layer then Some e.linetype else None
-
-    by : (b : Bool) → entry_linetype (es ++ e ∷ []) l ≡ option_or (entry_linetype es l) more
-        → (if b then Some x.linetype else entry_linetype (es ++ e ∷ []) l)
-        ≡ option_or (if b then Some x.linetype else entry_linetype es l) more
-    by true rest = refl
-    by false rest = rest
+    by : (b : Bool) → same_layer l m ≡ b → get key_order new (layer_key l)
+        ≡ option_or (get key_order old (layer_key l)) (if b then Some t else None)
+    by true is =
+        let one = ap layer_key (layers_are_one l m is) in
+        ap (get key_order new) one
+        ∙ (updates.1 ∙ sym (ap (λ known. option_or known (Some t)) (ap (get key_order old) one ∙ none)))
+    by false is = updates.2 (layer_key l) (keys_differ l m (layers_differ l m is)) ∙ sym (or_nothing (get key_order old (layer_key l)))
 
 module _ (layers : Layer → Option Linetype) (t : Option Linetype) (l : Layer) where
   -- where the layer has a linetype, it keeps that

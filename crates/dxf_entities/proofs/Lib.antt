@@ -6,4 +6,5 @@ pub mod NearPoints
 pub mod NextPoints
 pub mod TextFaults
 pub mod SameLayers
+pub mod LayerKeys
 pub mod LayerEntries

@@ -7,6 +7,7 @@ pub mod Coordinates
 pub mod Outlines
 pub mod Shapes
 pub mod DrawnLines
+pub mod LayerKeys
 pub mod Judging
 pub mod Reading
 pub mod Apart

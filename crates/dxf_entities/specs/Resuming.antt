@@ -1,5 +1,6 @@
 -- How the reading of a file goes on in the midst of an entry.
 use Rattle.std.specs.Prelude.{ℕ, Bool, true, false, not, List, [], ◌∷◌, Option, Some, None, Result, Ok, codes, if◌then◌else◌}
+use Rattle.std.specs.BTreeMap.{get}
 use Rattle.std.specs.Option.{option_or}
 use Rattle.solid_model.specs.declared.fault.Fault.{Fault}
 use Rattle.dxf_groups.specs.Pairs.{TextPair}
@@ -7,7 +8,6 @@ use Rattle.dxf_entities.specs.declared.facts.Facts.{Facts}
 use Rattle.dxf_entities.specs.declared.layer_facts.LayerFacts.{LayerFacts}
 use Rattle.dxf_entities.specs.declared.layer.Layer.{Layer as ReadLayer}
 use Rattle.dxf_entities.specs.declared.layer_line.LayerLine.{LayerLine}
-use Rattle.dxf_entities.specs.declared.layers.LayerEntry.{LayerEntry}
 use Rattle.dxf_entities.specs.declared.layers.Layers.{Layers}
 use Rattle.dxf_entities.specs.declared.named.Named.{Named}
 use Rattle.dxf_entities.specs.declared.named.Named.TheVariants.{Unread, Shows, Misnamed}
@@ -26,8 +26,9 @@ use Rattle.dxf_entities.specs.Steps.{◌>>=◌}
 use Rattle.dxf_entities.specs.Entries.{has_code, before_entries, entries_of, opens_application, closes_application}
 use Rattle.dxf_entities.specs.Judging.{is_one}
 use Rattle.dxf_entities.specs.Forms.{FormParts}
+use Rattle.dxf_entities.specs.LayerKeys.{key_order, layer_key}
 use Rattle.dxf_entities.specs.Names.{is_name, layer_on, linetype_of, kind_of}
-use Rattle.dxf_entities.specs.Reading.{Progress, between, opened, same_layer, with_layer, entity_read, is_ended, entries_read}
+use Rattle.dxf_entities.specs.Reading.{Progress, between, opened, with_layer, entity_read, is_ended, entries_read}
 
 -- what is known, or else what a pair with this code tells
 abbrev pub or_first : {A : Type 0} → ℕ → (List ℕ → A) → TextPair → Option A → Option A
@@ -73,12 +74,8 @@ begun_facts p = record {
 }
 
 -- the linetype of a layer: the first entry of the layer counts
-abbrev pub entry_linetype : List LayerEntry → ReadLayer → Option Linetype
-entry_linetype [] l = None
-entry_linetype (e ∷ es) l = if same_layer l e.layer then Some e.linetype else entry_linetype es l
-
 abbrev pub layer_linetype : Layers → ReadLayer → Option Linetype
-layer_linetype ls l = entry_linetype ls.entries.items l
+layer_linetype ls l = get key_order ls.linetypes (layer_key l)
 
 -- how far a reader has read, but for the entry that is open
 abbrev pub progress_of : Reader → Progress

@@ -5,24 +5,18 @@ ghost use Rattle.dxf_entities.specs.declared.layer.Layer.{Layer};
 ghost use Rattle.dxf_entities.specs.Reading.{layers_with};
 ghost use Rattle.dxf_entities.specs.Resuming.{layer_linetype};
 
-use crate::layer::Layer;
+use crate::layer::{Layer, LayerKey};
 use crate::layer_facts::LayerFacts;
 use crate::linetype::Linetype;
 use crate::named::Named;
 use solid_model::Memory;
 use std::alloc::Global;
-
-/// The linetype that an entry gives a layer.
-#[derive(Clone, Copy)]
-pub struct LayerEntry {
-    pub layer: Layer,
-    pub linetype: Linetype,
-}
+use std::collections::BTreeMap;
 
 /// The linetypes that the entries so far give layers; each layer has one.
 #[derive(Drop)]
 pub struct Layers {
-    pub entries: Vec<LayerEntry>,
+    pub linetypes: BTreeMap<LayerKey, Linetype>,
 }
 
 impl Layers {
@@ -31,7 +25,7 @@ impl Layers {
         ensures { (l : Layer) → layer_linetype result l ≡ None }
     {
         Layers {
-            entries: Vec::new(alloc),
+            linetypes: BTreeMap::new(alloc),
         }
     }
 
@@ -39,12 +33,7 @@ impl Layers {
     pub fn of(&self, layer: Layer) -> Option<Linetype>
         ensures { result ≡ layer_linetype self.now layer }
     {
-        for entry in &self.entries {
-            if entry.layer == layer {
-                return Some(entry.linetype);
-            }
-        }
-        None
+        self.linetypes.get(&layer.key()).copied()
     }
 
     /// Adds what a layer's entry tells; the first entry of a layer counts.
@@ -57,7 +46,7 @@ impl Layers {
         };
         if self.of(layer).is_none() {
             let linetype = entry.linetype.unwrap_or(Linetype::Continuous);
-            self.entries.push(LayerEntry { layer, linetype })?;
+            self.linetypes.insert(layer.key(), linetype)?;
         }
         Ok(())
     }

@@ -35,7 +35,7 @@ pub use laws::{
     small_files_of_six_views, small_names_of_sections, small_polylines,
     three_views_have_no_further_line,
 };
-pub use layer::{Cut, Layer};
+pub use layer::{Cut, Layer, LayerKey};
 pub use layer_line::LayerLine;
 pub use layer_set::LayerSet;
 pub use reading::{entities, entities_in, entities_six};
