@@ -1,1 +1,2 @@
 pub mod AskedLayers
+pub mod KeyedLayers
