@@ -17,7 +17,7 @@ use Rattle.dxf_entities.proofs.SameLayers.{layers_are_one}
 use Rattle.lemmas.specs.Lists.{Member}
 use Rattle.solid_model.specs.Line.{Line}
 use Rattle.further_views.specs.Further.{further_lines}
-use Rattle.further_views.specs.Layers.{kept_lines, lines_at}
+use Rattle.further_views.specs.Layers.{kept_lines, lines_by_key}
 
 -- a set has the keys of these layers
 abbrev pub Lists : BTreeSet LayerKey → List Layer → Type 0
@@ -73,7 +73,7 @@ OfLayers = BTreeMap LayerKey (Vec Line Global)
 
 -- a map keeps the lines of each layer
 abbrev pub Keeps : OfLayers → List LayerLine → Type 0
-Keeps own ls = (l : Layer) → lines_at own l ≡ further_lines ls l
+Keeps own ls = (l : Layer) → lines_by_key own l ≡ further_lines ls l
 
 pub keeps_none : (own : OfLayers) → tree.IsEmpty own → Keeps own []
 keeps_none own empty l = ap (λ es. kept_lines (lookup (λ k. is_eq (key_order (layer_key l) k)) es)) empty
@@ -82,15 +82,15 @@ keeps_none own empty l = ap (λ es. kept_lines (lookup (λ k. is_eq (key_order (
 pub keeps_more : (old between new : OfLayers) (ls : List LayerLine) (k : LayerLine) (more : Vec Line Global) → Keeps old ls
     → tree.UpdatesBy key_order (key_order (layer_key k.layer)) old between None
     → tree.Updates key_order between new (layer_key k.layer) (Some more)
-    → more.items ≡ lines_at old k.layer ++ k.line ∷ [] → Keeps new (ls ++ k ∷ [])
+    → more.items ≡ lines_by_key old k.layer ++ k.line ∷ [] → Keeps new (ls ++ k ∷ [])
 keeps_more old between new ls k more keeps taken put items l = by (same_layer k.layer l) refl
   where
-    by : (b : Bool) → same_layer k.layer l ≡ b → lines_at new l ≡ further_lines (ls ++ k ∷ []) l
+    by : (b : Bool) → same_layer k.layer l ≡ b → lines_by_key new l ≡ further_lines (ls ++ k ∷ []) l
     by true is =
         let one = layers_are_one k.layer l is in
-        let own : lines_at new k.layer ≡ more.items = ap kept_lines put.1 in
+        let own : lines_by_key new k.layer ≡ more.items = ap kept_lines put.1 in
         let all : further_lines (ls ++ k ∷ []) l ≡ further_lines ls l ++ k.line ∷ [] = further_more ls k l ∙ rw is refl in
-        ap (lines_at new) (sym one) ∙ (own ∙ (items ∙ (ap (λ ms. ms ++ k.line ∷ []) (keeps k.layer ∙ ap (further_lines ls) one) ∙ sym all)))
+        ap (lines_by_key new) (sym one) ∙ (own ∙ (items ∙ (ap (λ ms. ms ++ k.line ∷ []) (keeps k.layer ∙ ap (further_lines ls) one) ∙ sym all)))
     by false is =
         let apart = keys_differ l k.layer (λ e. layers_differ k.layer l is (sym e)) in
         let all : further_lines (ls ++ k ∷ []) l ≡ further_lines ls l = further_more ls k l ∙ rw is (append-nil (further_lines ls l)) in

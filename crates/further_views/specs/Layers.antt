@@ -22,5 +22,5 @@ abbrev pub kept_lines : Option (Vec Line Global) → List Line
 kept_lines None = []
 kept_lines (Some own) = own.items
 
-abbrev pub lines_at : BTreeMap LayerKey (Vec Line Global) → Layer → List Line
-lines_at own l = kept_lines (get key_order own (layer_key l))
+abbrev pub lines_by_key : BTreeMap LayerKey (Vec Line Global) → Layer → List Line
+lines_by_key own l = kept_lines (get key_order own (layer_key l))

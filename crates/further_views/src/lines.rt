@@ -4,7 +4,7 @@ ghost use Rattle.std.specs.Prelude.{◌≡◌, IfOk, IfSome, MatchOption};
 ghost use Rattle.solid_model.specs.declared.segment.Segment.{Segment};
 ghost use Rattle.solid_model.specs.Drawings.{drawing_of, IsEmptyView};
 ghost use Rattle.further_views.specs.Further.{further_lines, view_style, AreFurtherOf};
-ghost use Rattle.further_views.specs.Layers.{lines_at, AreLayersOf};
+ghost use Rattle.further_views.specs.Layers.{lines_by_key, AreLayersOf};
 
 use crate::further::{AskedView, Further};
 use dxf_entities::{Layer, LayerKey, LayerLine};
@@ -32,7 +32,7 @@ fn lines_by_layer(
     alloc: Global,
     lines: &[LayerLine],
 ) -> Result<BTreeMap<LayerKey, Vec<SheetLine>>, Memory>
-    ensures { IfOk result (λ own. (l : Layer) → lines_at own l ≡ further_lines lines.now l) }
+    ensures { IfOk result (λ own. (l : Layer) → lines_by_key own l ≡ further_lines lines.now l) }
 {
     let mut own = BTreeMap::new(alloc);
     for line in lines {
@@ -53,10 +53,10 @@ fn layer_view(
 ) -> Result<Option<ViewLines>, Memory>
     ensures drawn { IfOk result (λ shown. IfSome shown (λ runs. (g : Segment)
         → g.view ≡ layer.view
-        → view_style runs g ≡ drawing_of (lines_at own.now layer) g)) }
+        → view_style runs g ≡ drawing_of (lines_by_key own.now layer) g)) }
     ensures shown { IfOk result (λ shown. MatchOption shown
-        (IsEmptyView (lines_at own.now layer) layer.view)
-        (λ runs. IsEmptyView (lines_at own.now layer) layer.view → ⊥)) }
+        (IsEmptyView (lines_by_key own.now layer) layer.view)
+        (λ runs. IsEmptyView (lines_by_key own.now layer) layer.view → ⊥)) }
 {
     match own.get(&layer.key()) {
         Some(lines) => view_of(alloc, lines, layer.view),

@@ -11,7 +11,7 @@ use Rattle.solid_model.specs.Drawings.{drawing_of, IsEmptyView}
 use Rattle.solid_model.specs.Line.{Line}
 use Rattle.solid_model.specs.Runs.{ViewRuns}
 use Rattle.further_views.specs.Further.{further_lines, view_style}
-use Rattle.further_views.specs.Layers.{AreLayersOf, Differ, lines_at}
+use Rattle.further_views.specs.Layers.{AreLayersOf, Differ, lines_by_key}
 use Rattle.further_views.proofs.AskedLayers.{all_asked, none_asked, one_asked, one_unasked}
 use Rattle.further_views.proofs.lines.further_of.Goals as goal
 use Rattle.further_views.proofs.lines.further_of.Goals.{in-Some+in_ok-push, in_default}
@@ -37,7 +37,7 @@ loop-layer-preserved c =
     let views = c.loop-layer.views.items in
     let more : take (i + 1) layers ≡ take i layers ++ x ∷ [] = take_more layers i _ c.loop-layer-test.true in
     let of : AreLayersOf c.args.lines.now layers = rw (c.as_slice-layer-items.ensures.value) c.in_ok-layers.ensures in
-    let own : lines_at c.in_ok-own.own x ≡ further x = c.in_ok-own.ensures x in
+    let own : lines_by_key c.in_ok-own.own x ≡ further x = c.in_ok-own.ensures x in
     let told : IsShownBy c.in_ok-runs.field-0 (further x) x = subst (λ ls. IsShownBy c.in_ok-runs.field-0 ls x) own (c.in_ok-runs.ensures.drawn, c.in_ok-runs.ensures.shown) in
     let once : Ascends Differ (take i layers ++ x ∷ []) = rw (← more) (once_before layers (i + 1) of.once) in
     elim c.match-branch-4.branch [
