@@ -19,9 +19,9 @@ from .turns import MAKE_WAY, Limits, Running, Turn, Turns
 # The most bytes of what is told of one drawing, of one piece of that, and the most drawings in open pages.
 MOST_TOLD, PIECE, MOST_JOBS = 256 << 20, 4 << 20, 32
 # After how many seconds a page that was left is gone; and one of which nothing was heard: browsers let a page that isn't seen ask once a
-# minute. A page that was asked for within so many seconds before may be the same one, loaded anew, and has so many to come back.
+# minute. A page that is being loaded may be one that was left, loaded anew, and has so many seconds to come.
 GRACE, LIFE = 5.0, 150.0
-RECENT, LOADING = 30.0, 60.0
+LOADING = 60.0
 # What the drawing's process says in the end, where it told all.
 TOLD_ALL = re.compile(r"^draft follow: [\d,]+ solids? told$", re.M)
 FULL = (errno.ENOSPC, errno.EDQUOT, errno.EFBIG)
@@ -86,9 +86,14 @@ class Job:
         """Its page is there."""
         self.asked_at, self.left = time.monotonic(), 0.0
 
-    def is_gone(self) -> bool:
+    def leave(self) -> None:
+        """Its page goes away, for good or to be loaded anew."""
+        self.left = time.monotonic()
+
+    def is_gone(self, may_come: bool) -> bool:
+        """Whether its page is gone; one that was left may be the one that is being loaded."""
         now = time.monotonic()
-        return now - self.asked_at > LIFE or bool(self.left) and now - self.left > GRACE
+        return now - self.asked_at > LIFE or bool(self.left) and not may_come and now - self.left > GRACE
 
     def tell(self, data: bytes) -> None:
         """Keeps some whole events; once it has ended no file comes into its folder, which is being removed."""
@@ -140,7 +145,8 @@ class Desk:
         self.session, self.limits, self.path = session, limits, path
         self.turns = Turns(limits.at_once)
         self.jobs: dict[str, Job] = {}
-        self.page_at = -RECENT
+        # When those pages were asked for that haven't come yet.
+        self.loading: list[float] = []
         self.lock = threading.Lock()
         threading.Thread(target=self.clear, daemon=True).start()
 
@@ -148,7 +154,10 @@ class Desk:
         """Ends the drawings of pages that are gone, as long as the server runs."""
         while True:
             time.sleep(0.25)
-            for job in [job for job in list(self.jobs.values()) if job.is_gone()]:
+            with self.lock:
+                self.loading = [at for at in self.loading if time.monotonic() - at < LOADING]
+                gone = [job for job in self.jobs.values() if job.is_gone(bool(self.loading))]
+            for job in gone:
                 self.end(job)
 
     def begin(self) -> Job:
@@ -159,10 +168,19 @@ class Desk:
             self.jobs[job.key] = job
             return job
 
-    def leave(self, job: Job) -> None:
-        """A job's page goes away; where a page was just asked for, it may be loaded anew."""
-        now = time.monotonic()
-        job.left = now + (LOADING if now - self.page_at < RECENT else 0)
+    def asked_for_page(self) -> None:
+        with self.lock:
+            self.loading.append(time.monotonic())
+
+    def came(self, key: object) -> Job | None:
+        """A page that was asked for has come; the drawing that it had before it was loaded anew."""
+        with self.lock:
+            job = self.jobs.get(key) if isinstance(key, str) else None
+            if job:
+                job.heard()
+            if self.loading:
+                self.loading.pop(0)
+            return job
 
     def end(self, job: Job) -> None:
         with self.lock:

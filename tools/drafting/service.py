@@ -4,7 +4,6 @@ import hmac
 import json
 import re
 import secrets
-import time
 from typing import Any
 
 import flask
@@ -155,7 +154,7 @@ def take_files(job: Job) -> None:
 
 @asked_for.get("/")
 def table() -> flask.Response:
-    desk().page_at = time.monotonic()
+    desk().asked_for_page()
     form = (page.VIEWER / "table.html").read_text(encoding="utf-8")
     text, policy = page.filled({"title": "Drafting table", "table": form, "scripts": page.scripts("table")}, POLICY)
     response = flask.Response(text, mimetype="text/html")
@@ -191,7 +190,7 @@ def leave() -> str:
     """A page goes away, to come back within moments where it is loaded anew; or it has another drawing."""
     told = asked()
     job = desk().job(told.get("job"))
-    desk().leave(job)
+    job.leave()
     if told.get("for_good") is True:
         desk().end(job)
     return ""
@@ -203,10 +202,11 @@ def stop() -> str:
     return ""
 
 
-@asked_for.post("/given")
-def given() -> flask.Response:
-    """The drawing as it came, for a page that was loaded anew."""
-    return flask.Response(desk().job(asked().get("job")).given.read_bytes(), mimetype="application/octet-stream")
+@asked_for.post("/here")
+def here() -> flask.Response:
+    """A page has come. One that was loaded anew gets the drawing that it had, as it came."""
+    job = desk().came(asked().get("job"))
+    return flask.Response(job.given.read_bytes(), mimetype="application/octet-stream") if job else flask.Response(status=204)
 
 
 @asked_for.post("/example")

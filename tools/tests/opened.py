@@ -18,7 +18,7 @@ IS_OVER = (
 )
 HAS_SOLID = "!!document.querySelector('.solids figure:not([hidden])') && viewer.tiles[0].scene !== null"
 # What a page may ask of its server.
-PATHS = ("drawing", "events", "leave", "stop", "given", "example", "solid", "settle", "page")
+PATHS = ("drawing", "events", "leave", "stop", "here", "example", "solid", "settle", "page")
 
 
 def button(text: str, within: str = "body") -> str:

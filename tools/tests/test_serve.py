@@ -210,6 +210,20 @@ class Serving(unittest.TestCase):
         self.assertTrue(self.served.below())
         self.served.until_idle(60)
 
+    def test_a_page_that_is_left_gives_its_place_back(self) -> None:
+        """Within moments, however lately a page was asked for; but as long as one is being loaded that may be this one."""
+        served = self.served
+        job = served.job(CUBE)
+        list(served.events(job))
+        self.assertEqual(served.ask("/", b"", "GET").status, 200)
+        served.tell("/leave", job=job)
+        time.sleep(desk.GRACE + 2)
+        self.assertEqual(served.tell("/here", job=job), (200, CUBE.decode()))
+        self.assertEqual(served.ask("/", b"", "GET").status, 200)
+        self.assertEqual(served.tell("/here", job="").status, 204)
+        served.tell("/leave", job=job)
+        served.until_idle(desk.GRACE + 15)
+
     def test_two_hundred_at_once(self) -> None:
         """Each is answered or refused in words; the server stays, and holds little."""
         came: Counter[str] = Counter()

@@ -312,6 +312,11 @@ class Viewer(Opened):
         self.browser.visit("about:blank")
         self.browser.close_tab()
 
+    def test_a_page_that_is_closed_gives_its_place_back(self) -> None:
+        self.drop_example("unit_cube")
+        self.browser.close_tab()
+        self.served.until_idle(20)
+
     def test_the_first_page(self) -> None:
         """It says what a drawing needs, and has two examples to click."""
         self.assertIn("three views", self.text(".first"))

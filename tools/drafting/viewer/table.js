@@ -172,14 +172,13 @@ async function follow(job) {
   }
 }
 
-/** Comes back to the drawing that this page had before it was loaded anew, while it is there. */
-async function comeBack() {
-  const job = sessionStorage.getItem("job");
+/** Tells the server that this page is there, and comes back to the drawing that it had before it was loaded anew, while that is there. */
+async function come() {
   const name = decodeURIComponent(location.hash.slice(1));
-  if (!job || !name) return;
+  const job = (name && sessionStorage.getItem("job")) || "";
   table.key = job;
-  const response = await ask("/given", {}).catch(() => null);
-  if (!response?.ok || table.key !== job) return;
+  const response = await ask("/here", {}).catch(() => null);
+  if (response?.status !== 200 || table.key !== job) return;
   table.shown = new File([await response.blob()], name);
   table.began = performance.now();
   resetPage();
@@ -380,7 +379,7 @@ function listenAtTable() {
   window.addEventListener("pagehide", () => leave(false));
   setInterval(showTime, 100);
   setTimeout(prepareDrawing);
-  comeBack();
+  come();
 }
 
 listenAtTable();
