@@ -28,6 +28,23 @@ BRIGHT = """(name) => {
     return 0.2126 * r + 0.7152 * g + 0.0722 * b;
 }"""
 
+# Counts what a page draws, and looks whether a solid is drawn in the frame after its figure has come.
+WATCHED = """
+window.drawn = { shaders: 0, pictures: 0, isAtOnce: null };
+for (const [kind, name, count] of [[WebGLRenderingContext, "linkProgram", "shaders"], [CanvasRenderingContext2D, "drawImage", "pictures"]]) {
+  const act = kind.prototype[name];
+  kind.prototype[name] = function (...given) {
+    drawn[count]++;
+    return act.apply(this, given);
+  };
+}
+new MutationObserver(() => {
+  if (drawn.isAtOnce !== null || !window.viewer?.tiles.length) return;
+  drawn.isAtOnce = false;
+  requestAnimationFrame(() => (drawn.isAtOnce = viewer.tiles[0].scene !== null));
+}).observe(document, { childList: true, subtree: true });
+"""
+
 
 @needs_packages
 @needs_program()
@@ -316,6 +333,18 @@ class Viewer(Opened):
         self.drop_example("unit_cube")
         self.browser.close_tab()
         self.served.until_idle(20)
+
+    def test_what_draws_is_ready_before_a_drawing_comes(self) -> None:
+        """The page has drawn, and shows nothing of it; the first solid needs no further shader, and is drawn in the first frame that has its
+        figure."""
+        self.browser.call("Page.addScriptToEvaluateOnNewDocument", source=WATCHED)
+        self.browser.call("Page.reload")
+        self.browser.until("document.readyState === 'complete' && drawn.pictures > 0", PATIENCE)
+        self.assertEqual(self.value("[viewer.model.count, viewer.tiles.length, viewer.state.how, [...document.body.classList].sort()]"),
+                         [0, 0, "", ["alone", "served"]])
+        shaders = self.value("drawn.shaders")
+        self.drop_example("clevis")
+        self.assertEqual(self.value("[drawn.shaders, drawn.isAtOnce]"), [shaders, True])
 
     def test_the_first_page(self) -> None:
         """It says what a drawing needs, and has two examples to click."""

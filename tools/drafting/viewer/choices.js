@@ -1,7 +1,7 @@
 // Which solids are shown: those in which each block that is fixed is full or empty as asked, and which look as one that is meant does in
 // a further view. Blocks that are alike in all solids stand together as a group, told by its first one.
 import { change, state, when } from "./state.js";
-import { buttonOf, find, many, spanOf } from "./pieces.js";
+import { buttonOf, counted, find, many, spanOf } from "./pieces.js";
 import { isFull, model } from "./model.js";
 import { camera } from "./scene.js";
 
@@ -72,7 +72,7 @@ function askedInWords() {
 function showCounts() {
   const box = find(".fixing");
   const asked = askedInWords();
-  box.querySelector(".count").textContent = asked ? `${state.fitting.length.toLocaleString("en")} of ${many(model.count, "solid")} ${asked}` : "";
+  box.querySelector(".count").textContent = asked ? `${counted(state.fitting.length)} of ${many(model.count, "solid")} ${asked}` : "";
   box.querySelector(".undo").hidden = !asked;
   showRows(box);
 }

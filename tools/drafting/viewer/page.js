@@ -80,7 +80,12 @@ function takeSolids({ choices }) {
   takeChoices(choices);
   addFitting(before);
   setKind();
-  if (before >= state.most || !renderer) return refreshSoon();
+  if (before < state.most && renderer) showIn(0, showFirst);
+  else showIn(Math.min(2000, Math.max(200, 4 * cost)), refresh);
+}
+
+/** Shows the solids that have come, while all that are shown may still be among them. */
+function showFirst() {
   showAlike();
   refresh();
 }
@@ -92,6 +97,7 @@ function takeEnd({ html, how }) {
   groupBlocks();
   const picked = model.count === 2 && !state.picked.length ? [0, 1] : state.picked.map((number) => places[number]);
   const [meant, large] = [state.meant, state.large].map((number) => (number === null ? null : places[number]));
+  isDue = false;
   findFitting();
   showAlike();
   change({ how, picked, meant, large });
@@ -109,14 +115,15 @@ function refresh() {
   cost = performance.now() - began;
 }
 
-/** Shows what has come, at most a few times in a second. */
-function refreshSoon() {
+/** Shows what has come in so many milliseconds, unless all of it is shown before: so the first solids at once, but those that came together
+ *  together, and further ones at most a few times in a second. */
+function showIn(milliseconds, show) {
   if (isDue) return;
   isDue = true;
   setTimeout(() => {
+    if (isDue) show();
     isDue = false;
-    refresh();
-  }, Math.min(2000, Math.max(200, 4 * cost)));
+  }, milliseconds);
 }
 
 // ---- begin

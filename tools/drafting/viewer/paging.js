@@ -1,7 +1,7 @@
 // Which solids are on the page, so many at a time, and the way to any of them: by its number, which becomes the one that is meant, by
 // Before and Next, or by the arrow keys to the left and right.
 import { change, state, when } from "./state.js";
-import { find } from "./pieces.js";
+import { counted, find } from "./pieces.js";
 import { model } from "./model.js";
 import { findFitting } from "./choices.js";
 import { figures } from "./tiles.js";
@@ -32,9 +32,8 @@ function step(pages) {
 
 function showPager() {
   const last = Math.min(state.first + state.most, state.fitting.length);
-  const told = (count) => count.toLocaleString("en");
   find(".pager").hidden = model.count < 2;
-  find(".pager .shown").textContent = `${told(state.first + 1)} to ${told(last)} of ${told(state.fitting.length)}`;
+  find(".pager .shown").textContent = `${counted(state.first + 1)} to ${counted(last)} of ${counted(state.fitting.length)}`;
   find(".pager .before").disabled = state.first === 0;
   find(".pager .after").disabled = last === state.fitting.length;
   for (const input of document.querySelectorAll("input.number")) input.max = model.count;

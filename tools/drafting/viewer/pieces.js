@@ -14,9 +14,17 @@ export function buttonOf(text, act, kind = "") {
   return button;
 }
 
+// Made with the page: a browser's first one takes it a while.
+const english = new Intl.NumberFormat("en");
+
+/** A count in figures. */
+export function counted(count) {
+  return english.format(count);
+}
+
 /** A count with its noun. */
 export function many(count, noun) {
-  return `${count.toLocaleString("en")} ${noun}${count === 1 ? "" : "s"}`;
+  return `${counted(count)} ${noun}${count === 1 ? "" : "s"}`;
 }
 
 /** Puts a text where it can be pasted from, and says so on the button for a moment. */

@@ -168,7 +168,8 @@ export class Tile {
     this.canvas = canvas;
     this.cells = this.kinds = this.shape = null;
     this.scene = null;
-    this.isSeen = false;
+    // Whether it is on the screen, once that is told.
+    this.isSeen = null;
     this.through = false;
     this.coloured = true;
     this.zoom = 1;

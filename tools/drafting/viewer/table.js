@@ -3,8 +3,7 @@
 import { state, when } from "./state.js";
 import { buttonOf, find, many, spanOf } from "./pieces.js";
 import { choiceOf, model } from "./model.js";
-import { camera, renderer, startDrawing } from "./scene.js";
-import { addToFigures } from "./tiles.js";
+import { addToFigures, tiles } from "./tiles.js";
 import { numberAt } from "./choices.js";
 import { addBy } from "./settle.js";
 import { giveBy } from "./said.js";
@@ -352,13 +351,15 @@ function listenForFiles() {
   });
 }
 
-/** Has the browser make ready what draws, before there is something to be drawn: that takes it a while. */
+/** Has the browser make ready what draws, before there is something to be drawn, since that takes it a while: by a cell that is gone again
+ *  before it is seen. */
 function prepareDrawing() {
-  if (!startDrawing()) return;
-  const lines = new THREE.LineSegmentsGeometry().setPositions([0, 0, 0, 1, 1, 1]);
-  const scene = new THREE.Scene();
-  scene.add(new THREE.Mesh(new THREE.BoxBufferGeometry(), new THREE.MeshBasicMaterial()), new THREE.LineSegments2(lines, new THREE.LineMaterial()));
-  renderer.render(scene, camera);
+  if (table.key || table.began) return;
+  take({ kind: "grid", cuts: [[0, 1], [0, 1], [0, 1]], cells: [[0, 1], [-1, 7]], blocks: 1, units: { per: [1, 1], unit: "" } });
+  take({ kind: "solids", choices: ["8"] });
+  take({ kind: "end", how: "whole", html: "" });
+  tiles[0]?.draw();
+  resetPage();
 }
 
 function listenAtTable() {

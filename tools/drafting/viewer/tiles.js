@@ -11,6 +11,8 @@ export let tiles = [];
 export const others = [];
 // What a page of a server adds to a figure: by it solids are saved.
 const additions = [];
+// How far from the screen a tile is drawn already, in pixels.
+const NEAR = 200;
 let sawThrough = false;
 let isAsked = false;
 
@@ -27,8 +29,15 @@ export function redraw() {
   isAsked = true;
   requestAnimationFrame(() => {
     isAsked = false;
-    [...tiles, ...others].filter((tile) => tile.isSeen).forEach((tile) => tile.draw());
+    [...tiles, ...others].filter(isNear).forEach((tile) => tile.draw());
   });
+}
+
+/** Whether a tile is on the screen, or nearly so; one that has just come is looked at here, since the browser tells it a frame later. */
+function isNear({ canvas, isSeen }) {
+  if (isSeen !== null) return isSeen;
+  const { top, bottom, width } = canvas.getBoundingClientRect();
+  return width > 0 && bottom > -NEAR && top < innerHeight + NEAR;
 }
 
 /** Has a tile be drawn while it is on the screen. */
@@ -44,7 +53,7 @@ const seen = new IntersectionObserver((entries) => {
     if (tile) tile.isSeen = entry.isIntersecting;
   }
   redraw();
-}, { rootMargin: "200px" });
+}, { rootMargin: `${NEAR}px` });
 const sized = new ResizeObserver(() => redraw());
 
 // ---- figures
@@ -145,8 +154,6 @@ export function showAlike() {
 
 function setShown() {
   for (const id of ["through", "coloured"]) document.getElementById(id).checked = state[id];
-  if (!renderer) return;
-  takeColours();
   const { through, coloured } = state;
   [...tiles, ...others.filter(({ isPlain }) => isPlain)].forEach((tile) => Object.assign(tile, { through, coloured }));
   redraw();
@@ -169,6 +176,9 @@ export function listenForTiles() {
       find(".solids").style.setProperty("--tile", `${Math.max(90, Math.round(width))}px`);
     });
   }
-  matchMedia("(prefers-color-scheme: dark)").addEventListener("change", setShown);
+  matchMedia("(prefers-color-scheme: dark)").addEventListener("change", () => {
+    if (renderer) takeColours();
+    redraw();
+  });
   window.addEventListener("beforeprint", () => tiles.forEach((tile) => tile.draw()));
 }
