@@ -12,7 +12,7 @@ import threading
 import time
 from typing import Any
 
-from . import itself, shown
+from . import shown
 from .messages import Refused, many
 from .turns import MAKE_WAY, Limits, Running, Turn, Turns
 
@@ -143,7 +143,8 @@ class Desk:
 
     def __init__(self, session: pathlib.Path, limits: Limits, path: pathlib.Path) -> None:
         self.session, self.limits, self.path = session, limits, path
-        self.turns = Turns(limits.at_once)
+        self.turns = Turns(limits)
+        self.turns.ready.prepare(0)
         self.jobs: dict[str, Job] = {}
         # When those pages were asked for that haven't come yet.
         self.loading: list[float] = []
@@ -188,6 +189,7 @@ class Desk:
         job.end()
 
     def end_all(self) -> None:
+        self.turns.ready.end()
         for job in list(self.jobs.values()):
             self.end(job)
 
@@ -203,10 +205,10 @@ class Desk:
         # The program has a little less time, so that there is some to tell what it found.
         seconds = max(self.limits.seconds / 2, self.limits.seconds - 5)
         own = [] if command == "page" else [f"--program={self.path}", f"--seconds={seconds:g}", *job.words]
-        return itself.words(command, *own, *words)
+        return [command, *own, *words]
 
     def run(self, job: Job, turn: Turn, words: list[str]) -> Running:
-        running = Running(words, self.limits, turn, job.room)
+        running = turn.run(words, job.room)
         job.running.append(running)
         if job.has_ended:
             running.end()
@@ -274,8 +276,7 @@ class Desk:
         finally:
             running.end()
             job.running.remove(running)
-        is_right = TOLD_ALL.search(running.said.read_text(errors="replace")) if running.said.exists() else None
-        return "" if is_right or running.is_stopped or job.has_ended else running.complaint()
+        return "" if TOLD_ALL.search(running.words_said()) or running.is_stopped or job.has_ended else running.complaint()
 
     def made(self, job: Job, words: list[str], is_look: bool = False) -> bytes:
         """What a command over a job's drawing writes to standard output; what looks beyond a search makes way for a drawing."""

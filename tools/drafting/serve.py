@@ -50,8 +50,8 @@ def limits_of(arguments: argparse.Namespace) -> Limits:
     memory_is_taken = not limits.memory or 64 <= limits.memory <= 1 << 20
     if not (0 < limits.seconds <= 86_400 and memory_is_taken and 1 <= limits.processors <= 1_024 and 1 <= limits.at_once <= 64):
         raise Refused("limits that aren't taken: up to 86,400 seconds, 64 MiB of memory or more, 1 to 64 processes at once")
-    if missing := next((name for name in ("prlimit", "taskset") if not shutil.which(name)), None):
-        raise Refused(f"{missing} isn't there: apt-get install util-linux")
+    if not shutil.which("prlimit"):
+        raise Refused("prlimit isn't there: apt-get install util-linux")
     return limits
 
 

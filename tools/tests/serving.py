@@ -13,7 +13,7 @@ from typing import Any, NamedTuple
 
 from drafting import program
 from drafting.messages import Refused
-from drafting.session import OWNER
+from drafting.session import OWNER, PREFIX
 
 from .support import TOOLS, is_built
 
@@ -190,17 +190,31 @@ class Served:
         status = pathlib.Path(f"/proc/{self.process.pid}/status").read_text()
         return int(next(line.split()[1] for line in status.splitlines() if line.startswith("VmRSS"))) >> 10
 
-    def below(self) -> list[int]:
-        """The processes that it began and that still run."""
-        found = []
+    def children(self) -> dict[int, str]:
+        """The processes that it began and that still run, and where each of them does."""
+        found = {}
         for stat in pathlib.Path("/proc").glob("[0-9]*/stat"):
             try:
                 fields = stat.read_text().rpartition(")")[2].split()
+                if int(fields[1]) == self.process.pid and fields[0] != "Z":
+                    found[int(stat.parent.name)] = os.readlink(stat.parent / "cwd")
             except OSError:
                 continue
-            if int(fields[1]) == self.process.pid and fields[0] != "Z":
-                found.append(int(stat.parent.name))
         return found
+
+    def below(self) -> list[int]:
+        """Those of them that work at a drawing."""
+        return [pid for pid, place in self.children().items() if not pathlib.Path(place).name.startswith(PREFIX)]
+
+    def ready(self) -> int:
+        """The one that waits for a drawing, once there is one."""
+        until = time.monotonic() + PATIENCE
+        while time.monotonic() < until:
+            for pid, place in self.children().items():
+                if pathlib.Path(place).name.startswith(PREFIX):
+                    return pid
+            time.sleep(0.05)
+        raise Refused("no process is ready")
 
     def kept(self) -> list[str]:
         """The files that it keeps of drawings."""

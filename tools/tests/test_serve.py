@@ -5,6 +5,7 @@ import os
 import pathlib
 import random
 import re
+import signal
 import socket
 import tempfile
 import threading
@@ -357,6 +358,26 @@ class Limits(unittest.TestCase):
             last = served.follow(file_of(voids(4)).encode())[-1]
             self.assertEqual(last["kind"], "over")
 
+    def test_a_process_is_ready_for_the_next_drawing(self) -> None:
+        """It works at the drawing that comes, within the limits, and then another one is ready; so it is where the one that was has died."""
+        large = file_of(voids(4)).encode()
+        with Served("--processors", 1, "--seconds", 300) as served:
+            first = served.ready()
+            job = served.job(large, [["solids", "65536"]])
+            next(event for event in served.events(job) if event["kind"] == "solids")
+            self.assertEqual(served.below(), [first])
+            self.assertEqual(len(os.sched_getaffinity(first)), 1)
+            self.assertRegex(pathlib.Path(f"/proc/{first}/limits").read_text(), r"Max cpu time +300 ")
+            served.leave(job)
+            second = served.ready()
+            os.kill(second, signal.SIGKILL)
+            self.assertEqual(len(choices_in(served.follow(CUBE))), 3)
+            self.assertNotIn(served.ready(), (first, second))
+
+    def test_a_process_that_is_ready_ends_with_who_asked(self) -> None:
+        self.assertEqual(draft("ready"), (0, "", ""))
+        self.assertEqual(draft("ready", data=b'{"words": 1}\n'), (1, "", "draft ready: the line is none that `draft serve` tells\n"))
+
     def test_limits_that_are_not_taken(self) -> None:
         for name, value in (("seconds", 0), ("memory", 1), ("at-once", 0), ("processors", 0), ("port", 70_000), ("program", "/dev/null")):
             ended = draft("serve", "--no-browser", f"--{name}", value)
@@ -366,9 +387,21 @@ class Limits(unittest.TestCase):
         served = Served()
         job = served.job(file_of(voids(4)).encode(), [["solids", "65536"]])
         next(event for event in served.events(job) if event["kind"] == "solids")
-        below = served.below()
-        self.assertTrue(below)
+        served.ready()
+        began_by_it = list(served.children())
+        self.assertEqual((len(began_by_it), len(served.below())), (2, 1))
         began = time.monotonic()
         self.assertEqual(served.close(), 0)
         self.assertLess(time.monotonic() - began, 10)
-        self.assertEqual([pid for pid in below if pathlib.Path(f"/proc/{pid}").exists()], [])
+        self.assertEqual([pid for pid in began_by_it if pathlib.Path(f"/proc/{pid}").exists()], [])
+
+    def test_nothing_runs_on_once_the_server_is_killed(self) -> None:
+        served = Served()
+        ready = pathlib.Path(f"/proc/{served.ready()}")
+        served.process.kill()
+        served.process.wait()
+        until = time.monotonic() + 20
+        while ready.exists():
+            self.assertLess(time.monotonic(), until)
+            time.sleep(0.05)
+        served.close()
