@@ -17,6 +17,8 @@ IS_OVER = (
     "document.querySelector('.progress').hidden && [...document.querySelectorAll('.told, .failed')].some((it) => it.textContent.trim())"
 )
 HAS_SOLID = "!!document.querySelector('.solids figure:not([hidden])') && viewer.tiles[0].scene !== null"
+# A solid is drawn, or it is told that there is none.
+IS_SHOWN = f"({HAS_SOLID}) || viewer.model.count === 0 && !!document.querySelector('.told *')"
 # What a page may ask of its server.
 PATHS = ("drawing", "events", "leave", "stop", "here", "example", "solid", "settle", "page")
 
@@ -66,7 +68,7 @@ class Opened(unittest.TestCase):
         """Drops a drawing in, and answers after how many seconds a solid, or what is wrong, was seen."""
         began = time.monotonic()
         self.browser.drop(file)
-        self.browser.until(f"({HAS_SOLID}) || !!document.querySelector('.told *')", PATIENCE)
+        self.browser.until(IS_SHOWN, PATIENCE)
         return time.monotonic() - began
 
     def drop_example(self, name: str) -> float:
