@@ -1,6 +1,6 @@
 """Imports what a drawing needs, and then waits to be told of one: so `draft serve` has a process at hand when a drawing is dropped in. To begin
-it only then would take a third of a second, most of what passes until its first solid is seen. It still runs one command alone, with limits
-of its own, and ends with that.
+one only then would take about as long as all the rest until its first solid is seen. Each still runs one command alone, within limits of its
+own, and ends with that.
 
 Standard input is who asked. Its first line, in JSON, says the command, where it runs, and on which processors; what follows is the command's.
 Its end before that is the end.
@@ -11,7 +11,7 @@ import json
 import os
 import resource
 
-from . import command
+from . import command, reading
 from .messages import Refused
 
 NAME = "ready"
@@ -26,7 +26,7 @@ def add_arguments(parser: argparse.ArgumentParser) -> None:
 
 
 def prepare() -> None:
-    from . import follow, reading
+    command.commands("follow")
     most = resource.getrlimit(resource.RLIMIT_AS)[0]
     if most == resource.RLIM_INFINITY or most >= ROOMY:
         with contextlib.suppress(Refused):
