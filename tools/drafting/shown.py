@@ -1,4 +1,5 @@
 """What a page shows of a drawing and of its answer, as pieces of HTML: the words at the top, and the views."""
+import functools
 import html
 from collections.abc import Mapping
 from fractions import Fraction
@@ -132,10 +133,12 @@ def sizes_told(views: Views, units: Units) -> str:
 
 def views_told(views: Views, units: Units, marked: int | None = None, curves: Mapping[str, list[Curve]] = {}) -> str:
     """The views as a picture, in which each line tells its place and length."""
+    # Of many lines the ends are at few coordinates.
+    told = functools.cache(lambda at: units.told(round(at * 10**units.decimals)))
+
     def measured(view: str, kind: str, low: Place, high: Place) -> str:
-        ends = [", ".join(units.told(round(at * 10**units.decimals)) for at in end) for end in (low, high)]
-        length = units.told(round(abs(high[0] - low[0] + high[1] - low[1]) * 10**units.decimals))
-        return f"{view}, {ends[0]} to {ends[1]}: {length} long, {kind}"
+        ends = [", ".join(map(told, end)) for end in (low, high)]
+        return f"{view}, {ends[0]} to {ends[1]}: {told(abs(high[0] - low[0] + high[1] - low[1]))} long, {kind}"
 
     size = VIEWS + 2 * MARGIN
     parts = "".join(views_drawn(views, MARGIN, MARGIN, marked, measured, curves))

@@ -71,9 +71,14 @@ export function isFull(number, block) {
   return (model.bits[number * model.stride + (block >> 3)] >> (7 - (block & 7))) & 1;
 }
 
+/** Of each block whether a solid fills it: 1 or 0. */
+function fullOf(number) {
+  return new Uint8Array(model.blocks).map((_, block) => isFull(number, block));
+}
+
 /** A solid's choice, for each block of the drawing. */
 export function choiceOf(number) {
-  return Array.from({ length: model.blocks }, (_, block) => isFull(number, block)).join("");
+  return fullOf(number).join("");
 }
 
 /** Puts the solids into the stated order, and answers where each of them went. */
@@ -125,8 +130,12 @@ function isAlike(one, other) {
 
 /** The cells of a solid. */
 export function cellsOfSolid(number) {
-  const full = Array.from({ length: model.blocks }, (_, block) => isFull(number, block));
-  return Uint8Array.from(model.blockAt, (block) => (block >= 0 ? full[block] : 0));
+  const full = fullOf(number);
+  const cells = new Uint8Array(model.places);
+  model.blockAt.forEach((block, place) => {
+    if (block >= 0) cells[place] = full[block];
+  });
+  return cells;
 }
 
 /** The cells that the first has and the second lacks. */
@@ -147,18 +156,20 @@ export function volumeOfSolid(number) {
   return model.volumes.reduce((volume, one, block) => (isFull(number, block) ? volume + one : volume), 0n);
 }
 
+/** Does something with each place and its ranks along the axes. */
+function eachPlace(act) {
+  const [wide, deep, tall] = model.counts;
+  let place = 0;
+  for (let z = 0; z < tall; z++) for (let y = 0; y < deep; y++) for (let x = 0; x < wide; x++) act(place++, x, y, z);
+}
+
 /** How far a solid reaches along each axis. */
 export function sizesOf(cells) {
-  const low = [Infinity, Infinity, Infinity];
-  const high = [0, 0, 0];
-  cells.forEach((full, place) => {
-    for (let axis = 0; full && axis < 3; axis++) {
-      const rank = rankOf(place, axis);
-      low[axis] = Math.min(low[axis], model.cuts[axis][rank]);
-      high[axis] = Math.max(high[axis], model.cuts[axis][rank + 1]);
-    }
+  const reached = model.counts.map((count) => new Uint8Array(count));
+  eachPlace((place, x, y, z) => {
+    if (cells[place]) reached[0][x] = reached[1][y] = reached[2][z] = 1;
   });
-  return low.map((least, axis) => high[axis] - least);
+  return reached.map((ranks, axis) => model.cuts[axis][ranks.lastIndexOf(1) + 1] - model.cuts[axis][ranks.indexOf(1)]);
 }
 
 /** A text that is the same for two solids that look the same from outside. */
@@ -166,11 +177,10 @@ export function outsideOf(cells) {
   const seen = new Uint8Array(model.places);
   const [wide, deep, tall] = model.counts;
   const waiting = [];
-  for (let place = 0; place < model.places; place++) {
-    const [x, y, z] = [0, 1, 2].map((axis) => rankOf(place, axis));
+  eachPlace((place, x, y, z) => {
     const isEdge = !x || !y || !z || x >= wide - 2 || y >= deep - 2 || z >= tall - 2;
     if (isEdge && !cells[place]) waiting.push(place);
-  }
+  });
   while (waiting.length) {
     const place = waiting.pop();
     if (seen[place]) continue;
@@ -181,7 +191,7 @@ export function outsideOf(cells) {
       }
     }
   }
-  return seen.join("");
+  return new TextDecoder("latin1").decode(seen);
 }
 
 // ---- lengths

@@ -15,14 +15,18 @@ export function takeRounded({ solids }) {
   find(".rounded-only").hidden = !shapes.size;
 }
 
+function roundedOf(number) {
+  return shapes.size ? shapes.get(choiceOf(number)) : undefined;
+}
+
 /** What is drawn of a solid in place of its cells; null where it is drawn by these, which are what blocks and sections speak of. */
 export function shapeOf(number) {
-  return state.squared || state.brush !== null ? null : shapes.get(choiceOf(number)) ?? null;
+  return state.squared || state.brush !== null ? null : roundedOf(number) ?? null;
 }
 
 /** A solid's volume in words: that of the round one, where it is known. */
 export function volumeTold(number) {
-  return shapes.get(choiceOf(number))?.volume ?? measured(volumeOfSolid(number), 3);
+  return roundedOf(number)?.volume ?? measured(volumeOfSolid(number), 3);
 }
 
 export function listenForRounded() {

@@ -13,6 +13,9 @@ export const others = [];
 const additions = [];
 // How far from the screen a tile is drawn already, in pixels.
 const NEAR = 200;
+// The tiles that are due to be drawn, and for how long they are in one frame, in milliseconds.
+const due = new Set();
+const FRAME = 50;
 let sawThrough = false;
 let isAsked = false;
 
@@ -25,12 +28,25 @@ export function addToFigures(make) {
 
 /** Asks for the tiles that are on the screen to be drawn anew, once for all that changes before the next frame. */
 export function redraw() {
-  if (isAsked || !renderer) return;
+  if (!renderer) return;
+  for (const tile of [...tiles, ...others]) due.add(tile);
+  askForFrame();
+}
+
+function askForFrame() {
+  if (!isAsked) requestAnimationFrame(drawDue);
   isAsked = true;
-  requestAnimationFrame(() => {
-    isAsked = false;
-    [...tiles, ...others].filter(isNear).forEach((tile) => tile.draw());
-  });
+}
+
+/** Draws tiles that are due, those first that have waited longest; where they take long, the others in the next frames. */
+function drawDue() {
+  isAsked = false;
+  const until = performance.now() + FRAME;
+  for (const tile of due) {
+    if (performance.now() > until) return askForFrame();
+    due.delete(tile);
+    if (isNear(tile)) tile.draw();
+  }
 }
 
 /** Whether a tile is on the screen, or nearly so; one that has just come is looked at here, since the browser tells it a frame later. */
