@@ -144,7 +144,6 @@ class Desk:
     def __init__(self, session: pathlib.Path, limits: Limits, path: pathlib.Path) -> None:
         self.session, self.limits, self.path = session, limits, path
         self.turns = Turns(limits)
-        self.turns.ready.prepare(0)
         self.jobs: dict[str, Job] = {}
         # When those pages were asked for that haven't come yet.
         self.loading: list[float] = []

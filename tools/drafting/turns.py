@@ -16,7 +16,7 @@ from typing import NamedTuple
 from . import controls, itself
 from .messages import Refused
 
-# Within how many seconds an answer is shown, at leisure: the next process isn't made ready meanwhile.
+# After how many seconds the first solid of a drawing is likely to be shown: the next process isn't made ready meanwhile.
 SHOWN = 1.0
 # How many may wait for a turn, and after how many seconds without a word one is looked after.
 MOST_WAITING, HEARTBEAT = 64, 0.25
@@ -117,7 +117,6 @@ class Turn:
             self.make_way = make_way
             self.turns.looking.append(self)
             self.turns.changed.notify_all()
-        self.turns.ready.prepare()
 
     def leave(self) -> None:
         with self.turns.changed:
@@ -129,7 +128,6 @@ class Turn:
                 self.turns.free.add(self.slot)
                 self.slot = None
             self.turns.changed.notify_all()
-        self.turns.ready.prepare()
 
     def run(self, words: list[str], folder: pathlib.Path) -> "Running":
         """Has a process run a command of `draft` in a folder, in this one's slot."""
@@ -225,16 +223,18 @@ class Running:
 
 
 class Ready:
-    """The process that is ready for the next command. Once that has its answer, and has been shown, another one is made ready in the background.
-    There is one, however many slots there are: so what waits takes little, and of two drawings at the same moment one begins without."""
+    """The process that is ready for the next command. Once it is taken another one is made ready, in the background, when the first solid is
+    likely to be shown. There is one, however many slots there are: so what waits takes little, and of two drawings at the same moment one
+    begins without."""
 
     def __init__(self, limits: Limits) -> None:
         self.limits = limits
         self.running: Running | None = None
         self.has_ended = False
         self.lock = threading.Lock()
+        self.prepare(0)
 
-    def prepare(self, seconds: float = SHOWN) -> None:
+    def prepare(self, seconds: float) -> None:
         """Has one be made ready after so many seconds."""
         timer = threading.Timer(seconds, self.make)
         timer.daemon = True
@@ -250,6 +250,7 @@ class Ready:
         """The one that is ready, or a new one, where there is none that lives."""
         with self.lock:
             running, self.running = self.running, None
+        self.prepare(SHOWN)
         return running if running and running.process.poll() is None else Running(self.limits)
 
     def end(self) -> None:

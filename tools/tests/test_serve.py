@@ -371,6 +371,8 @@ class Limits(unittest.TestCase):
             served.leave(job)
             second = served.ready()
             os.kill(second, signal.SIGKILL)
+            while second in served.children():
+                time.sleep(0.05)
             self.assertEqual(len(choices_in(served.follow(CUBE))), 3)
             self.assertNotIn(served.ready(), (first, second))
 
