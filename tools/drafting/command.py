@@ -15,8 +15,8 @@ from .messages import Progress, Refused, Usage, say
 # The commands, in the order in which the help tells them: a module each, with NAME, HELP, add_arguments(parser) and
 # run(arguments), which answers the status. What a command needs beyond Python is imported by its run alone.
 MODULES = (
-    "sheet", "solve", "serve", "ready", "follow", "why", "settle", "judge", "prove", "check", "table", "batch", "step", "stl", "clean", "chosen", "page",
-    "picture", "stages", "views", "triangles",
+    "sheet", "solve", "serve", "ready", "follow", "why", "settle", "judge", "prove", "check", "table", "batch", "step", "stl", "clean", "chosen",
+    "page", "picture", "stages", "views", "triangles",
 )
 
 EPILOG = """\

@@ -335,8 +335,8 @@ class Viewer(Opened):
         self.served.until_idle(20)
 
     def test_what_draws_is_ready_before_a_drawing_comes(self) -> None:
-        """The page has drawn, and shows nothing of it; the first solid needs no further shader, and is drawn in the first frame that has its
-        figure."""
+        """The page has drawn, and shows nothing of it; the first solid needs no further shader, and is drawn in the frame that first has
+        its figure."""
         self.browser.call("Page.addScriptToEvaluateOnNewDocument", source=WATCHED)
         self.browser.call("Page.reload")
         self.browser.until("document.readyState === 'complete' && drawn.pictures > 0", PATIENCE)
