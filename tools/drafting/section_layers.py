@@ -80,9 +80,9 @@ def strokes_in_all(lines: list[str], decimals: int, with_sections: bool) -> dict
 
 # ---- what they show of a solid
 
-def layer_of(layer: Layer, decimals: int) -> str:
-    """The name of a layer in a drawing of so many decimals."""
-    return layer.layer(decimals) if isinstance(layer, Section) else layer
+def layer_of(layer: Layer, decimals: int, with_point: bool = True) -> str:
+    """The name of a layer in a drawing of so many decimals, whose release takes points in names or doesn't."""
+    return layer.layer(decimals, with_point) if isinstance(layer, Section) else layer
 
 
 def least_of(cells: Iterable[Cell], cuts: Cuts, section: Section) -> tuple[int, int]:

@@ -15,25 +15,22 @@ import functools
 import itertools
 import json
 import pathlib
-from collections import Counter
-from collections.abc import Callable, Hashable, Iterable, Iterator, Sequence
-from fractions import Fraction
+import re
+from collections.abc import Callable, Hashable, Iterable, Sequence
 from typing import NamedTuple
 
 from . import asking, blocks, faults, program
 from .added import Added, Label, ends_of, lines_of_sections, lines_of_view, with_lines
 from .answers import CUT, FAULT, WHOLE, Answer, Face, Solid, answer_of, have_views, text_of
 from .blocks import Blocks
-from .cells import Grid as Cells, grid_round
+from .cells import grid_round
 from .controls import command, option
-from .drawing import FURTHER, VIEWS, decimals_of, is_known, lines_within, views_of
+from .drawing import VIEWS, decimals_of, is_known, lines_within, views_of
 from .given import given_in
+from .means import Means, Solids, all_means, best_first
 from .messages import Progress, Refused, many, say, write_result
-from .panels import (
-    AXES, DASHED, FRAMES, SOLID, STYLES, Cell, Sheet, Shown, columns_of, sheet_of, shown_of, strokes_shown, style_between,
-)
-from .section_keys import keys_of as section_shows
-from .section_layers import Layer, Section, layers_in
+from .panels import AXES, DASHED, FRAMES, SOLID, STYLES, Sheet, Shown, sheet_of, shown_of, strokes_shown
+from .section_layers import Layer, Section, layers_in, named
 
 NAME = "settle"
 HELP = "what further view or section tells the solids of a drawing apart"
@@ -50,124 +47,17 @@ def add_arguments(parser: argparse.ArgumentParser) -> None:
     blocks.add_argument(parser)
     parser.add_argument("--meant", type=int, metavar="K", help="the solid that is meant, by its number in the answer")
     parser.add_argument("--write", metavar="OUT.dxf", help="with --meant: write the drawing with the lines to be added")
-    parser.add_argument("--by", action="append", choices=(*VIEWS, *FURTHER), default=[], metavar="VIEW", help="with --meant: this view, not the fewest")
+    parser.add_argument("--by", action="append", type=layer_named, default=[], metavar="LAYER", help="with --meant: this view or section, not the fewest")
     parser.add_argument("--json", action="store_true", help="with --meant: what is to be added as JSON, for `draft serve`")
     parser.add_argument("--all", action="store_true", help=f"all sections, not the best {SHOWN} alone")
     asking.add_arguments(parser)
 
 
-class Solids(NamedTuple):
-    """The solids of an answer: their grid, and the cells of each as a number of bits."""
-
-    cells: Cells
-    full: list[int]
-
-    @property
-    def sizes(self) -> list[int]:
-        return [len(cut) - 1 for cut in self.cells.cuts]
-
-    def cells_in(self, full: int) -> list[Cell]:
-        return list(self.cells.all_in(full))
-
-    def varying(self) -> int:
-        """The cells that some of the solids have and others don't."""
-        either, both = 0, self.cells.every
-        for full in self.full:
-            either, both = either | full, both & full
-        return either & ~both
-
-
-class Means(NamedTuple):
-    """A view, or the lines or the area of a section, and for each solid what it shows: solids of one key look alike in it, and None is nothing,
-    which can't be drawn. Of a section also what it shows, the axis that it is across, and which cells it cuts."""
-
-    place: str
-    keys: list[Hashable]
-    layer: Layer
-    kind: str = ""
-    section: tuple[int, int] | None = None
-
-    @property
-    def name(self) -> str:
-        return f"{self.place} ({self.kind})" if self.kind else self.place
-
-    @property
-    def sizes(self) -> list[int]:
-        """How many solids each group has, the largest first; where nothing can be drawn all are left."""
-        return sorted((count if key is not None else len(self.keys) for key, count in Counter(self.keys).items()), reverse=True)
-
-    def alike(self, number: int) -> set[int]:
-        """The solids that one as this is drawn of a solid leaves."""
-        drawn = self.keys[number]
-        return {other for other, key in enumerate(self.keys) if drawn in (key, None)}
-
-    def tells_as(self, other: "Means") -> bool:
-        """Whether this tells apart whatever another one does, whichever solid is meant."""
-        return None not in self.keys and len(set(zip(self.keys, other.keys))) == len(set(self.keys))
-
-
-# ---- what views and sections show
-
-def view_keys(solids: Solids, view: str, varying: list[Cell]) -> Means:
-    """What a view shows of each solid, beside the columns in which the solids differ at all."""
-    frame, sizes = FRAMES[view], solids.sizes
-    places = set(columns_of(varying, sizes, frame))
-    around = {(i + dx, j + dy) for i, j in places for dx, dy in ((0, 0), (1, 0), (-1, 0), (0, 1), (0, -1))}
-    keys: list[Hashable] = []
-    for full in solids.full:
-        Progress.show(f"{view}: {len(keys):,} of {len(solids.full):,} solids")
-        columns = columns_of(solids.cells_in(full), sizes, frame)
-        shown = {place: columns.get(place, 0) for place in around}
-        keys.append(tuple(
-            style_between(shown[i, j], shown[i + dx, j + dy])
-            for i, j in sorted(places) for dx, dy in ((1, 0), (-1, 0), (0, 1), (0, -1))
-        ))
-    return Means(view, keys, view)
-
-
-def section_keys(solids: Solids, sheet: Sheet, varying: list[Cell]) -> Iterator[Means]:
-    """What sections between each two neighbouring grid planes show of the solids, where these differ there: the area, and from both sides the
-    lines, unless these tell no more than what is told already."""
-    for axis, cut in enumerate(solids.cells.cuts):
-        for at in sorted({cell[axis] for cell in varying}):
-            place = f"section across {AXES[axis]} between {' and '.join(sheet.between(axis, cut, *cut[at:at + 2]))}"
-            plane = plane_between(cut[at] - cut[0], cut[at + 1] - cut[0], sheet.decimals)
-            if plane is None:
-                continue
-            told: list[Means] = []
-            for view, is_area in ways_across(axis):
-                Progress.show(f"{place}, {view}")
-                section, kind = Section(view, plane, is_area), "area" if is_area else f"lines from {sheet.name(view)}"
-                one = Means(place, section_shows(solids.cells, solids.full, section), section, kind, (axis, at))
-                told += [] if any(other.tells_as(one) for other in told) else [one]
-            yield from told
-
-
-def ways_across(axis: int) -> list[tuple[str, bool]]:
-    """What a section across an axis may show: its area, seen as in a main view, and its lines, seen so or from the other side."""
-    views = [view for view in (*VIEWS, *FURTHER) if FRAMES[view].sight == axis]
-    return [(views[0], True), *((view, False) for view in views)]
-
-
-def plane_between(low: int, high: int, decimals: int) -> Fraction | None:
-    """A plane between two coordinates, in units of the last decimal: about in the middle, with as few decimals as can be, at most 6."""
-    for places in range(program.MOST_DECIMALS + 1):
-        unit = Fraction(10**decimals, 10**places)
-        plane = round(Fraction(low + high, 2) / unit) * unit
-        if low < plane < high:
-            return plane
-    return None
-
-
-def all_means(solids: Solids, sheet: Sheet) -> tuple[list[Means], list[Means]]:
-    """What each view that isn't drawn, a main one first, and each section shows of the solids; of the sections the best ones first."""
-    varying = solids.cells_in(solids.varying())
-    views = [view_keys(solids, view, varying) for view in (*sheet.missing, *FURTHER)]
-    return views, best_first(list(section_keys(solids, sheet, varying)))
-
-
-def best_first(means: Sequence[Means]) -> list[Means]:
-    return sorted(means, key=lambda it: (it.sizes[0], -len(it.sizes)))
+def layer_named(text: str) -> str:
+    """The layer of a view or a section, as LEFT or AREA_FRONT_1.5."""
+    if not is_known(text):
+        raise argparse.ArgumentTypeError(f"{text!r} is the layer of no view or section")
+    return text.upper()
 
 
 def settled_by(answer: Answer, sheet: Sheet) -> str:
@@ -394,16 +284,15 @@ class Meant(NamedTuple):
 
 def told_meant(
     case: Case, solids: Solids, number: int, views: list[Means], sections: list[Means], sheet: Sheet, its: Callable[[], Blocks],
-    by: Sequence[str] = (), by_sections: bool = True
+    by: Sequence[str] = ()
 ) -> Meant:
-    """What is told of the solid that is meant: by the fewest views, or by those that are named; or where these leave others by sections."""
+    """What is told of the solid that is meant: by the views and sections that are named, or by the fewest views, or where these leave others by
+    sections."""
     answer, every = case.answer, set(range(len(solids.full)))
     chosen, left = views_for(views, number)
     if by:
-        chosen = [it for it in views if sheet.name(it.name) in by]
-        if len(chosen) < len(set(by)):
-            raise Refused(f"{' and '.join(sorted(set(by) - {sheet.name(it.name) for it in chosen}))}: drawn already")
-    elif left != {number} and by_sections:
+        chosen = named_by(by, [*views, *sections], sheet)
+    elif left != {number}:
         chosen = with_sections(chosen, sections, number, every)
     left = left_by(chosen, number, every)
     cells, cuts = solids.cells_in(solids.full[number]), solids.cells.cuts
@@ -419,6 +308,18 @@ def told_meant(
         settling = sections_for(sections, number, left)
         rows.append(f"It would be settled by {names_of(settling, sheet)}." if settling else "No sections settle it.")
     return Meant(rows, added, labels, [answer.solids[it].faces for it in sorted(left)])
+
+
+def named_by(layers: Sequence[str], means: Sequence[Means], sheet: Sheet) -> list[Means]:
+    """The views and sections on these layers; refused where one of them isn't looked at."""
+    def named_here(layer: str) -> Layer:
+        return named(layer, sheet.decimals) or sheet.name(layer)
+
+    known = {it.layer for it in means}
+    unknown = sorted({layer for layer in layers if named_here(layer) not in known})
+    if unknown:
+        raise Refused(f"{' and '.join(unknown)}: drawn already, or none of the sections that are told")
+    return [it for it in means if it.layer in map(named_here, layers)]
 
 
 def chosen_told(number: int, chosen: Sequence[Means], left: int, sheet: Sheet) -> str:
@@ -443,9 +344,14 @@ def looked_at(case: Case) -> tuple[Sheet, Solids, list[Means], list[Means]]:
     return sheet, solids, views, sections
 
 
+def reads_sections(arguments: argparse.Namespace, meant: Meant) -> bool:
+    """Whether the drawing with the added lines has sections that are read."""
+    return bool(meant.labels) or bool(arguments.sections)
+
+
 def text_for(arguments: argparse.Namespace, case: Case, meant: Meant) -> tuple[str, str]:
     """The drawing with the added lines, and what is said of its check by the program."""
-    sections = bool(meant.labels) or arguments.sections
+    sections = reads_sections(arguments, meant)
     if meant.labels and not arguments.sections and layers_in(case.lines):
         raise Refused(f"the drawing has sections which weren't read, {' and '.join(layers_in(case.lines))}: settle it with {option('sections')}")
     text = with_lines(case.lines, meant.added, case.decimals, meant.labels)
@@ -465,11 +371,12 @@ def scaled(faces: list[Face], times: int) -> list[Face]:
     return [Face(face.outward, [[tuple(it * times for it in corner) for corner in loop] for loop in face.loops]) for face in faces]
 
 
-def as_json(rows: list[str], text: str, left: int) -> str:
-    """What is told of the solid that is meant in sentences, the lines to be added, the drawing with them, and how many solids that leaves."""
+def as_json(rows: list[str], text: str, left: int, with_sections: bool) -> str:
+    """What is told of the solid that is meant in sentences, the lines to be added, the drawing with them, how many solids that leaves, and whether
+    that drawing's sections have to be read."""
     lines = [row.strip() for row in rows if row.startswith("  ") and is_known(row.split()[0])]
-    words = [row.removesuffix(" The lines to be added:").removesuffix(" They differ in") for row in rows if not row.startswith("  ")]
-    return json.dumps({"words": words, "lines": lines, "dxf": text, "left": left})
+    words = [re.sub(r" The lines to be added[^:]*:$| They differ in$", "", row) for row in rows if not row.startswith("  ")]
+    return json.dumps({"words": words, "lines": lines, "dxf": text, "left": left, "sections": with_sections})
 
 
 def how_asked(text: str) -> str:
@@ -499,10 +406,10 @@ def run(arguments: argparse.Namespace) -> int:
         rows.append("Views and sections are drawn here, from the solids that the program lists.")
     else:
         its = functools.partial(blocks.of, arguments, case.data, case.lines, case.decimals)
-        meant = told_meant(case, solids, arguments.meant - 1, views, sections, sheet, its, arguments.by, not arguments.json)
+        meant = told_meant(case, solids, arguments.meant - 1, views, sections, sheet, its, arguments.by)
         text, said = text_for(arguments, case, meant) if meant.added else ("", "")
         more = [*meant.rows, said] if meant.added else meant.rows
-        rows = [as_json(more, text, len(meant.left))] if arguments.json else [*rows, *more]
+        rows = [as_json(more, text, len(meant.left), reads_sections(arguments, meant))] if arguments.json else [*rows, *more]
     write_result("".join(f"{row}\n" for row in rows), None)
     if arguments.write:
         if not meant.added:

@@ -206,8 +206,8 @@ class Answer:
         return Why(tuple(rows), tuple(map(suggestion_of, found)))
 
     def settle(self, meant: int | None = None, by: Sequence[str] = ()) -> Settling:
-        """What tells the solids apart; and where one is meant, the fewest further views that tell it from all others, or those that are
-        named, whose lines recon has read: it lists just what is left."""
+        """What tells the solids apart; and where one is meant, the fewest further views that tell it from all others, else sections, or
+        those on the layers that are named, whose lines recon has read: it lists just what is left."""
         if len(self) < 2:
             return Settling(())
         if meant is not None and not 1 <= meant <= len(self):

@@ -4,7 +4,7 @@ from collections.abc import Iterator
 from dataclasses import dataclass
 from fractions import Fraction
 
-from drafting import settle, why
+from drafting import means as telling, why
 from drafting.added import Added
 from drafting.panels import STYLES, Row
 
@@ -97,8 +97,8 @@ def suggestion_of(suggestion: why.Suggestion) -> Suggestion:
     return Suggestion(tuple(suggestion.words), tuple(changes_of(suggestion)), outcome.count or 0, outcome.more)
 
 
-def groups_of(means: list[settle.Means]) -> tuple[Groups, ...]:
-    return tuple(Groups(it.name, len(it.sizes), it.sizes[0]) for it in settle.best_first(means))
+def groups_of(means: list[telling.Means]) -> tuple[Groups, ...]:
+    return tuple(Groups(it.name, len(it.sizes), it.sizes[0]) for it in telling.best_first(means))
 
 
 def line_of(added: Added, decimals: int) -> Line:

@@ -111,7 +111,7 @@ class Asking:
 
     def settled(self, asked: "Asked") -> dict[str, object]:
         """The views that leave the part alone, or as few as views can, by their directions, and the sections that would settle it."""
-        from drafting import settle
+        from drafting import means, settle
         from drafting.cells import grid_round
         solids = settle.of_first_reading(asked) if asked.rounds else asked.answer().solids
         if not 1 < len(solids) <= settle.MOST_SETTLED or asked.rounds and asked.rounds.elsewhere:
@@ -119,7 +119,7 @@ class Asking:
         if not asked.page or not 0 < self.part <= len(solids):
             return {"views": [], "left": len(solids), "words": settle.settled_by(asked.answer()._replace(solids=solids), asked.sheet())}
         cells = grid_round(solids)
-        views, sections = settle.all_means(settle.Solids(cells, [cells.cells(it) for it in solids]), asked.sheet())
+        views, sections = means.all_means(means.Solids(cells, [cells.cells(it) for it in solids]), asked.sheet())
         chosen, left = settle.views_for(views, self.part - 1)
         words = [it.name for it in settle.sections_for(sections, self.part - 1, left)] if len(left) > 1 else []
         return {"views": [self.way(asked, it.name) for it in chosen if it.sizes[0] < len(solids) or len(left) == 1], "left": len(left),
