@@ -23,6 +23,8 @@ from .section_layers import layers_in
 
 # What recon passes over and a sheet is compared with: its sizes, and which views are sections.
 TELLING = ("DIMENSION", "HATCH")
+# What is told of sections that weren't read is of entities of this kind.
+UNREAD = "section"
 # The program's commands that read sections.
 READ_SECTIONS = ("solve", "redraw", "stl", "check")
 # Faults of a drawing of three layers which `draft sheet` may get round.
@@ -228,7 +230,8 @@ def decimals_words(command: tuple[object, ...], decimals: int) -> list[object]:
 def passed_over_told(lines: list[str], with_sections: bool = False) -> list[Note]:
     """What lies within the views and isn't read, and sections where they aren't."""
     unread = [] if with_sections else layers_in(lines)
-    sections = [noted.warning(f"{' and '.join(unread)} {'was' if len(unread) == 1 else 'were'} not read: {option('sections')} has sections read")]
+    told = f"{' and '.join(unread)} {'was' if len(unread) == 1 else 'were'} not read: {option('sections')} has sections read"
+    sections = [Note("warning", told, len(unread), entity=UNREAD)]
     return [Note("warning", f"{count} {kind} on layer {layer} {'lies' if count == 1 else 'lie'} within the views and "
                  f"{'was' if count == 1 else 'were'} not read", count, layer=layer, entity=kind)
             for (layer, kind), count in passed_over(lines).items()] + (sections if unread else [])

@@ -114,9 +114,14 @@ def add_argument(parser: argparse.ArgumentParser) -> None:
 
 
 def ask(arguments: argparse.Namespace, tell: Tell) -> asking.Asked:
-    """Asks for the blocks of a drawing, or of what is drawn of a sheet; the limits are those of searches for its rounds."""
+    """Asks for the blocks of a drawing, or of what is drawn of a sheet; the limits are those of searches for its rounds. What is asked later on
+    of a sheet that has sections reads these too."""
     without = {"nodes": None, "solids": None, "workers": None, "limits": asking.words_of(arguments)}
-    return asking.ask(arguments.drawing, argparse.Namespace(**{**vars(arguments), **without}), tell, ("blocks",))
+    its = argparse.Namespace(**{**vars(arguments), **without})
+    try:
+        return asking.ask(arguments.drawing, its, tell, ("blocks",))
+    finally:
+        arguments.sections = its.sections
 
 
 def of(arguments: argparse.Namespace, data: bytes, lines: list[str], decimals: int) -> Blocks:

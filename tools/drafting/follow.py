@@ -20,14 +20,18 @@ from collections.abc import Callable, Iterator
 from typing import IO, Any
 
 from . import asking, blocks, faults, left_open, noted, program, settle, shown, why
+from .added import takes_points
 from .answering import Readings
 from .answers import CUT, FAULT, WHOLE
 from .blocks import Blocks
 from .drawing import Line, decimals_of, lines_within, missing_in, origin_of, views_of
 from .given import given_in
+from .means import Solids, all_means, best_first
 from .messages import Refused, many, say
 from .noted import Note
-from .panels import sheet_of
+from .panels import FRAMES, sheet_of
+from .section_layers import layer_of
+from .section_pictures import drawn_sections
 from .shown import Units
 from .turns import MAKE_WAY, STOP
 
@@ -60,12 +64,24 @@ def add_options(parser: argparse.ArgumentParser) -> None:
 # ---- events
 
 def said(told: object) -> Event:
-    """A sentence, or what is told as one."""
-    return {"kind": "said", "text": str(told)}
+    """A sentence, or what is told as one; of sections that weren't read it says that they are such."""
+    return {"kind": "said", "text": str(told), **({"unread": True} if isinstance(told, Note) and told.entity == asking.UNREAD else {})}
 
 
-def drawing_event(lines: list[str], units: Units, head: str = "") -> Event:
-    return {"kind": "drawing", "html": shown.drawing_told(views_of(lines), units, head, given_in(lines))}
+def drawing_event(lines: list[str], units: Units, head: str = "", with_sections: bool = False) -> Event:
+    """The views, and where they are read the sections."""
+    sections = drawn_sections(lines, units.decimals) if with_sections else []
+    return {"kind": "drawing", "html": shown.drawing_told(views_of(lines), units, head, given_in(lines), sections)}
+
+
+def planes_events(lines: list[str], its: Blocks, units: Units) -> Events:
+    """The planes at which solids can be cut, those of the drawing's sections: of each its axis, where it lies from the part's least coordinate on, in
+    units of the answer, and whether what is farther is cut off, or what is nearer."""
+    sections = drawn_sections(lines, units.decimals)
+    if units.origin.mirrored:
+        sections = [it.in_a_mirror(its.grid.cuts[0][-1] - its.grid.cuts[0][0]) for it in sections]
+    planes = [{"told": it.told(units.told), "axis": it.axis, "at": float(it.at), "back": FRAMES[it.view].sight_back} for it in sections]
+    yield from [{"kind": "planes", "planes": planes}] if planes else []
 
 
 def grid_event(its: Blocks, units: Units) -> Event:
@@ -110,25 +126,31 @@ def stopped_event(count: int, why_stopped: str = "") -> Event:
     return end_event("stopped", shown.stopped_told(count, why_stopped))
 
 
+def fault_events(lines: list[str], units: Units, head: str, with_sections: bool) -> Events:
+    """What is told of a drawing that has a fault."""
+    yield drawing_event(lines, units, head, with_sections)
+    yield end_event("fault", shown.fault_told(head, lines))
+
+
 def unmeant(text: str) -> Event:
     """Why it isn't told what would settle it."""
     return {"kind": "means", "rows": [], "text": text}
 
 
 def means_event(its: Blocks, choices: list[str], lines: list[str], decimals: int) -> Event:
-    """What further views and sections show: for each solid, in the stated order, the number of its group. Views, which the program reads,
-    come before sections, which it doesn't."""
+    """What further views and sections show, each told by its layer: for each solid, in the stated order, the number of its group, or null where
+    nothing is drawn. Views come before sections, of which is told too which cells they cut."""
     if len(choices) > MOST_SETTLED or len(choices) * its.grid.count > MOST_CELLS:
         return unmeant(f"What would settle it isn't looked for among {many(len(choices), 'solid')}.")
-    solids = settle.Solids(its.grid, list(map(its.full, sorted(choices, reverse=True))))
-    views, sections = settle.all_means(solids, sheet_of(views_of(lines), decimals))
+    solids = Solids(its.grid, list(map(its.full, sorted(choices, reverse=True))))
+    views, sections = all_means(solids, sheet_of(views_of(lines), decimals))
     # What a mirror shows isn't drawn beside solids that are turned back.
-    is_drawn = not origin_of(lines).mirrored
+    is_drawn, with_points = not origin_of(lines).mirrored, takes_points(lines)
     rows = []
-    for means in [*settle.best_first(views), *sections[:settle.SHOWN]]:
+    for means in [*best_first(views), *sections[:settle.SHOWN]]:
         numbers: dict[object, int] = {}
-        keys = [numbers.setdefault(key, len(numbers)) for key in means.keys]
-        rows.append({"name": means.name, "keys": keys, "section": means.section})
+        keys = [None if key is None else numbers.setdefault(key, len(numbers)) for key in means.keys]
+        rows.append({"name": means.name, "layer": layer_of(means.layer, decimals, with_points), "keys": keys, "at": means.section and means.section[1]})
     text = "Drawn here from the solids that the program lists; a drawing with lines added is checked by the program."
     return {"kind": "means", "rows": rows, "text": text, "drawn": is_drawn}
 
@@ -149,6 +171,7 @@ class Search:
         self.choices: list[str] = []
         self.kept: set[str] | None = None
         self.rounds: Readings | None = None
+        self.with_sections = False
         # How it is told that what is looked for beyond the search was ended before it was found, as long as that is so.
         self.unlooked: Callable[[str], Event] | None = None
 
@@ -187,7 +210,7 @@ class Search:
     def events(self, data: bytes, decimals: int, its: Blocks, arguments: argparse.Namespace) -> Events:
         """Searches a drawing of three layers that has no fault, as it is: its views, its solids page by page, how it ended, and what would
         settle it."""
-        self.lines, self.decimals, self.blocks = lines_within(data), decimals, its
+        self.lines, self.decimals, self.blocks, self.with_sections = lines_within(data), decimals, its, arguments.sections
         words = ["solve", *asking.views_words(self.lines), *asking.sections_words(("solve",), arguments),
                  *asking.decimals_words(("solve",), decimals), *asking.words_of(arguments), "--pages"]
         yield from self.searched(program.find(arguments.program), list(map(str, words)), data, arguments.seconds)
@@ -195,7 +218,9 @@ class Search:
             self.unlooked = lambda why: unmeant(f"What would settle it wasn't looked for to its end, {why}.")
         elif not self.choices and WHOLE.fullmatch(self.head):
             self.unlooked = lambda why: looked(f"What would have to be drawn otherwise wasn't looked for to its end, {why}.", [])
-        if self.head:
+        if FAULT.fullmatch(self.head):
+            yield from fault_events(self.lines, Units(decimals, origin_of(self.lines)), self.head, arguments.sections)
+        elif self.head:
             ended = shown.head_told(self.head, len(self.shown), missing_in(views_of(self.lines)), self.rounds)
             yield end_event("cut" if CUT.fullmatch(self.head) else "whole", ended)
         else:
@@ -235,16 +260,17 @@ class Search:
             choices, head = self.page(int(head.split()[3]), rows)
             self.choices += choices
             yield solids_event([choice for choice in choices if self.kept is None or choice in self.kept])
-        self.head = head if WHOLE.fullmatch(head) or CUT.fullmatch(head) else ""
+        self.head = head if any(it.fullmatch(head) for it in (WHOLE, CUT, FAULT)) else ""
 
     def views(self) -> Events:
         """The views, and the grid where the drawing has one."""
         units = Units(self.decimals, origin_of(self.lines))
-        yield drawing_event(self.lines, units)
+        yield drawing_event(self.lines, units, with_sections=self.with_sections)
         if units.origin.mirrored:
             yield said(MIRRORED)
         if self.blocks.grid.has_cells():
             yield grid_event(self.blocks, units)
+            yield from planes_events(self.lines, self.blocks, units) if self.with_sections else ()
 
     def page(self, count: int, rows: Iterator[str]) -> tuple[list[str], str]:
         """The choices of one page, up to so many solids in all, and the line behind it."""
@@ -335,8 +361,7 @@ def follow(arguments: argparse.Namespace, search: Search) -> Events:
             yield from map(said, told)
         head = asked.run.text.partition("\n")[0]
         if FAULT.fullmatch(head):
-            yield drawing_event(asked.lines, Units(asked.decimals, asked.origin), head)
-            yield end_event("fault", shown.fault_told(head, asked.lines))
+            yield from fault_events(asked.lines, Units(asked.decimals, asked.origin), head, arguments.sections)
             return
         search.take_rounds(asked.rounds)
         yield from rounds_events(asked)

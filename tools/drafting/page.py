@@ -2,11 +2,12 @@
 had by running the program. Solids are shown by their blocks: where these are it tells too, or the file BLOCKS. An answer whose faces aren't
 those of its blocks is refused.
 
-The page stands alone and asks the network for nothing. It shows the views as drawn, and the solids in three dimensions, so
-many at a time: turned by mouse, touch and arrow keys, all together, and one large, with sections. What only some of them have is
-coloured, two that are picked are compared, and blocks can be fixed full or empty, by which those solids are left that have them
-so. Of a fault it shows the lines of the file that are named. Where no solid has the views it shows what would have to be drawn otherwise, unless the answer was given,
-and where several have them which further view would tell them apart. `draft serve` shows the same while the program searches.
+The page stands alone and asks the network for nothing. It shows the views as drawn, with --sections also the sections, and the solids in
+three dimensions, so many at a time: turned by mouse, touch and arrow keys and cut at these sections, all together, and one large, with
+sections. What only some of them have is coloured, two that are picked are compared, and blocks can be fixed full or empty, by which those
+solids are left that have them so. Of a fault it shows the lines of the file that are named. Where no solid has the views it shows what
+would have to be drawn otherwise, unless the answer was given, and where several have them which further view or section would tell them
+apart. `draft serve` shows the same while the program searches.
 
 For three dimensions it has three.js, on Debian: apt-get install libjs-three. What is proved is the program, and not this.
 """
@@ -142,16 +143,17 @@ def answer_told(lines: list[str], text: str, its: Blocks | None, with_sections: 
         yield follow.said(follow.MIRRORED)
     if not any(views.values()) and not FAULT.fullmatch(head):
         raise Refused("no line of a view is in the drawing, and the answer is no fault")
-    yield follow.drawing_event(lines, units, head)
     if FAULT.fullmatch(head):
-        yield follow.end_event("fault", shown.fault_told(head, lines))
+        yield from follow.fault_events(lines, units, head, with_sections)
         return
+    yield follow.drawing_event(lines, units, head, with_sections)
     rounds = rounds_of(lines, text, units)
     yield from follow.rounds_events(asking.Asked(b"", lines, units.decimals, units.origin, program.Run(program.WHOLE, text, 0.0), None, rounds))
     choices: list[str] = []
     if its:
         choices = [it for it in checked_choices(answer, its) if rounds is None or it in rounds.choices]
         yield follow.grid_event(its, units)
+        yield from follow.planes_events(lines, its, units) if with_sections else ()
         yield follow.solids_event(choices)
     count = answer.listed if rounds is None else len(choices)
     yield follow.end_event("cut" if CUT.fullmatch(head) else "whole", shown.head_told(head, count, missing_in(views), rounds))
@@ -177,7 +179,7 @@ def told_of(drawing: str, arguments: argparse.Namespace) -> Events:
     """What the program tells of a drawing that is at hand."""
     data = drawing.encode()
     lines = lines_within(data)
-    decimals = decimals_of(lines)
+    decimals = decimals_of(lines, arguments.sections)
     return follow.Search().events(data, decimals, blocks.of(arguments, data, lines, decimals), arguments)
 
 

@@ -18,7 +18,7 @@ from .advice import Advisable, GetsFurther, InTheWay
 from .areas import Hatch, Segment, area_of, distinct
 from .controls import option
 from .cutting import Mark, Word, corners_of, is_head, words_of
-from .drawing import Stroke, number
+from .drawing import Stroke, number, pairs
 from .groups import Group, united
 from .messages import Refused, many
 from .noted import Tell
@@ -346,10 +346,16 @@ class Reader(NamedTuple):
 
 
 class Layers(NamedTuple):
-    """The layers of a sheet's sections, with their strokes, and how lengths become whole, with the decimals that the planes need."""
+    """The layers of a sheet's sections, with their strokes, how lengths become whole, with the decimals that the planes need, and each layer's letter."""
 
     strokes: dict[str, list[Stroke]]
     measure: Measure
+    letters: dict[str, str]
+
+    @property
+    def comments(self) -> str:
+        """The letters as a drawing says them."""
+        return pairs(*((999, f"draft section {letter} {name}") for name, letter in self.letters.items()))
 
 
 def layers_of(sheet: Sheet, marks: Sequence[Mark], placed: Placed, times: Fraction, measure: Measure, arguments: argparse.Namespace, tell: Tell) -> Layers:
@@ -370,7 +376,8 @@ def layers_of(sheet: Sheet, marks: Sequence[Mark], placed: Placed, times: Fracti
             if sorted(layers.setdefault(name, segments)) != sorted(segments):
                 raise Refused(f"section {section.letter}-{section.letter} is of the same plane as another one, {name}, and shows something else")
         told(section, list(its), part, measure, tell)
-    return Layers(dict(stood(layers, placed, measure)), measure)
+    letters = {name: section.letter for section in sections for name in named(section, part, measure, placed.mirrored)}
+    return Layers(dict(stood(layers, placed, measure)), measure, letters)
 
 
 def named(section: CutView, part: Part, measure: Measure, is_mirrored: bool) -> dict[str, list[Segment]]:

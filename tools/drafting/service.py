@@ -11,7 +11,7 @@ from werkzeug.exceptions import HTTPException
 
 from . import page, program
 from .desk import Desk, Job, Unfit, told_of_failure
-from .drawing import FURTHER, VIEWS
+from .drawing import VIEWS, is_known
 from .messages import Refused
 
 # The most bytes of a file, and of a request with two of them.
@@ -26,8 +26,10 @@ OPTIONS = {
     "scale": f"{NUMBER}:{NUMBER}", "tolerance": r"\d{0,3}\.?\d{1,9}", "hidden": WHICH, "visible": WHICH, "leave-out": WHICH,
     "sheet-page": NAME, "part": NAME,
 }
-SWITCHES = ("as-is", "all-visible", "as-drawn")
+SWITCHES = ("as-is", "all-visible", "as-drawn", "sections")
 MOST_OPTIONS = 40
+# The most letters of a layer's name, as one may be named.
+MOST_NAME = 64
 # The forms in which a solid is saved, and the commands for that; and the drawings that a first page offers.
 FORMS = {"dxf": "clean", "stl": "stl", "step": "step"}
 EXAMPLES = ("clevis", "quartered_cube")
@@ -240,11 +242,11 @@ def solid() -> flask.Response:
 
 @asked_for.post("/settle")
 def settle() -> flask.Response:
-    """What to add so that the solid that is meant is left: the fewest further views, or those that are named."""
+    """What to add so that the solid that is meant is left: the fewest further views, else sections, or those that are named by their layers."""
     told = asked()
     job, number, views = desk().job(told.get("job")), number_in(told), told.get("views", [])
-    if not isinstance(views, list) or len(views) > len(VIEWS) or any(view not in (*VIEWS, *FURTHER) for view in views):
-        raise Unfit(400, "no views")
+    if not isinstance(views, list) or len(views) > len(VIEWS) or not all(isinstance(it, str) and len(it) < MOST_NAME and is_known(it) for it in views):
+        raise Unfit(400, "no views or sections")
     if job.how == "stopped":
         raise Unfit(422, "the search was stopped, so that its solids have no numbers that stay: read the drawing again, to the end")
     words = [f"--meant={number}", "--json", *(f"--by={view}" for view in views)]

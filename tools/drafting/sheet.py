@@ -442,8 +442,10 @@ def draw_straight(path: str | None, sheet: Sheet, marks: Sequence[Mark], argumen
     placed = checked_views(path, sheet, sheet.edges, marks, arguments, tell)
     times = scale_in_use(path, sheet, placed, arguments, tell)
     measure = measured(path, placed, times, arguments, tell)
-    layers = section_views.layers_of(sheet, marks, placed, times, measure, arguments, tell) if placed.sections else None
-    return drawn_views(path, sheet, placed, times, layers.measure if layers else measure, arguments, tell, layers=layers.strokes if layers else {})
+    if not placed.sections:
+        return drawn_views(path, sheet, placed, times, measure, arguments, tell)
+    layers = section_views.layers_of(sheet, marks, placed, times, measure, arguments, tell)
+    return drawn_views(path, sheet, placed, times, layers.measure, arguments, tell, layers.comments, layers.strokes)
 
 
 def checked_views(path: str | None, sheet: Sheet, edges: Sequence[Edge], marks: Sequence[Mark], arguments: argparse.Namespace, tell: Tell) -> Placed:

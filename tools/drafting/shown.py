@@ -1,17 +1,18 @@
 """What a page shows of a drawing and of its answer, as pieces of HTML: the words at the top, and the views."""
 import functools
 import html
-from collections.abc import Mapping
+from collections.abc import Mapping, Sequence
 from fractions import Fraction
 from typing import NamedTuple
 
-from . import asking, faults, seen
+from . import asking, faults, section_pictures, seen
 from .answering import Readings
 from .answers import CUT, have_views
 from .drawing import Origin, Place, Views
 from .given import Given
 from .messages import many
-from .svg import VIEWS, Curve, views_drawn
+from .section_pictures import DrawnSection
+from .svg import BEYOND, VIEWS, Curve, views_drawn
 
 # The most lines of an entity that are shown whole; else how many lines of the file are shown before and behind the one that a fault
 # names, and how much of each.
@@ -131,8 +132,10 @@ def sizes_told(views: Views, units: Units) -> str:
     return html.escape("; ".join(rows))
 
 
-def views_told(views: Views, units: Units, marked: int | None = None, curves: Mapping[str, list[Curve]] = {}) -> str:
-    """The views as a picture, in which each line tells its place and length."""
+def views_told(
+    views: Views, units: Units, marked: int | None = None, curves: Mapping[str, list[Curve]] = {}, sections: Sequence[DrawnSection] = (),
+) -> str:
+    """The views as a picture, in which each line tells its place and length, with the planes of sections; and these as pictures below it."""
     # Of many lines the ends are at few coordinates.
     told = functools.cache(lambda at: units.told(round(at * 10**units.decimals)))
 
@@ -140,18 +143,21 @@ def views_told(views: Views, units: Units, marked: int | None = None, curves: Ma
         ends = [", ".join(map(told, end)) for end in (low, high)]
         return f"{view}, {ends[0]} to {ends[1]}: {told(abs(high[0] - low[0] + high[1] - low[1]))} long, {kind}"
 
-    size = VIEWS + 2 * MARGIN
-    parts = "".join(views_drawn(views, MARGIN, MARGIN, marked, measured, curves))
-    return f'<svg viewBox="0 0 {size} {size}" role="img" aria-label="The views">{parts}</svg>'
+    margin = MARGIN + (BEYOND if sections else 0)
+    size = VIEWS + 2 * margin
+    planes = section_pictures.planes_in(sections, views, units.decimals, units.told)
+    parts = "".join(views_drawn(views, margin, margin, marked, measured, curves, planes))
+    return (f'<svg viewBox="0 0 {size} {size}" role="img" aria-label="The views">{parts}</svg>'
+            f"{section_pictures.figures(sections, units.told, measured)}")
 
 
-def drawing_told(views: Views, units: Units, head: str = "", given: Given | None = None) -> str:
-    """The views with what is to be said of them; where the answer's first line is a fault, with the line that it names; and with their
-    rounds, where these were squared off."""
+def drawing_told(views: Views, units: Units, head: str = "", given: Given | None = None, sections: Sequence[DrawnSection] = ()) -> str:
+    """The views, and the sections, with what is to be said of them; where the answer's first line is a fault, with the line that it names; and
+    with their rounds, where these were squared off."""
     if not any(views.values()):
         return paragraph("No line of a view can be read.")
     lines, curves = seen.views_of(given) if given else (views, {})
-    picture = views_told(lines, units, faults.line_named(head), curves)
+    picture = views_told(lines, units, faults.line_named(head), curves, sections)
     note = paragraph(sizes_told(views, units), "muted sizes-told") + paragraph("Point at a line to see its length.", "muted measured")
     if 'class="marked"' in picture:
         note += paragraph("In red, the line of the drawing that the fault names.", "muted")

@@ -3,12 +3,15 @@ import functools
 import html
 import itertools
 from collections.abc import Callable, Iterable, Iterator, Mapping, Sequence
+from typing import NamedTuple
 
 from .drawing import VIEWS as MAIN
 from .drawing import Line, Place, Views
 
 # Sizes on the picture, in pixels: the square that the views stand in, and what is between them.
 VIEWS, GAP = 290, 36
+# How far the line of a section's plane goes beyond the view, and how long its arrows are, how wide, and how far before these a letter stands.
+BEYOND, ARROW, HEAD, LETTER = 9, 13, 3, 7
 # The column and the row, from the top, in which each view stands beside FRONT. The further ones are drawn where they have lines.
 PLACES = {"TOP": (0, -1), "FRONT": (0, 0), "SIDE": (1, 0), "LEFT": (-1, 0), "REAR": (2, 0), "BOTTOM": (0, 1)}
 
@@ -79,6 +82,36 @@ class View:
             yield path([(left + scale * x, bottom - scale * y) for x, y in (start, end)], kind, told=told(kind, start, end) if told else "")
 
 
+class Plane(NamedTuple):
+    """The plane of a section in a view: whether its line is upright there, at which coordinate from the view's least corner on, whether its arrows
+    look to the right or upwards, else back, the letter at these, and what is told of it."""
+
+    upright: bool
+    at: float
+    looks_ahead: bool
+    letter: str
+    told: str
+
+    def drawn(self, view: View, left: float, bottom: float, scale: float) -> Iterator[str]:
+        """A chain line with an arrow at each end, where it goes through a view, with the view's lower left corner there."""
+        wide, high = (view.width, view.height) if self.upright else (view.height, view.width)
+        ways = 1 if self.looks_ahead else -1
+
+        def place(along: float, ahead: float) -> Place:
+            across = scale * self.at + ways * ahead
+            return (left + across, bottom - along) if self.upright else (left + along, bottom - across)
+
+        ends = (-BEYOND, scale * high + BEYOND) if 0 < self.at < wide else ()
+        if ends:
+            yield path([place(end, 0) for end in ends], "plane", told=self.told)
+        for end in ends:
+            yield path([place(end, 0), place(end, ARROW)], "shaft")
+            yield path([place(end, ARROW), *(place(end + side, ARROW - 2 * HEAD) for side in (HEAD, -HEAD))], "arrow", closed=True)
+            if self.letter:
+                x, y = place(end, ARROW + LETTER)
+                yield label(x, y + 4.5, self.letter, "letter")
+
+
 def steps(sizes: dict[int, float], start: float, scale: float) -> dict[int, float]:
     """Where each column or row begins, the first one there, one gap apart."""
     begins = {}
@@ -90,9 +123,9 @@ def steps(sizes: dict[int, float], start: float, scale: float) -> dict[int, floa
 
 def views_drawn(
     views: Views, left: float, top: float, marked: int | None = None, told: Told | None = None,
-    curves: Mapping[str, list[Curve]] = {},
+    curves: Mapping[str, list[Curve]] = {}, planes: Mapping[str, Sequence[Plane]] = {},
 ) -> Iterator[str]:
-    """The views in third-angle places in a square from there, with the lines that join them."""
+    """The views in third-angle places in a square from there, with the lines that join them, and the planes of sections."""
     drawn = {name: View(views.get(name, []), marked, curves.get(name, ())) for name in PLACES if name in MAIN or views.get(name)}
     columns: dict[int, float] = {}
     rows: dict[int, float] = {}
@@ -114,7 +147,10 @@ def views_drawn(
         column, row = PLACES[name]
         yield from drawn[name].drawn(lefts[column], bottoms[row], scale, functools.partial(told, name) if told else None)
         yield from drawn[name].rounds(lefts[column], bottoms[row], scale)
+        for plane in planes.get(name, ()):
+            yield from plane.drawn(drawn[name], lefts[column], bottoms[row], scale)
     for name, view in drawn.items():
         column, row = PLACES[name]
         text = name if views.get(name) else f"no {name}"
-        yield label(lefts[column] + scale * view.width / 2, top - 10 if name == "TOP" else bottoms[row] + 22, text, "small")
+        beyond = BEYOND if any(plane.upright for plane in planes.get(name, ())) else 0
+        yield label(lefts[column] + scale * view.width / 2, top - 10 - beyond if name == "TOP" else bottoms[row] + 22 + beyond, text, "small")

@@ -187,8 +187,11 @@ class Serving(unittest.TestCase):
         settled = json.loads(self.served.tell("/settle", job=job, number=2, views=["LEFT"]).text)
         self.assertEqual((settled["left"], len(settled["lines"])), (2, 6))
         self.assertEqual(len(choices_in(self.served.follow(settled["dxf"].encode()))), 2)
-        # A main view settles nothing where all three are drawn; what is no view isn't taken.
-        for view, status in (("FRONT", 422), ("ABOVE", 400)):
+        settled = json.loads(self.served.tell("/settle", job=job, number=2, views=["AREA_FRONT_0.5"]).text)
+        self.assertTrue(settled["sections"])
+        self.assertEqual(len(choices_in(self.served.follow(settled["dxf"].encode(), ["sections"]))), settled["left"])
+        # A main view settles nothing where all three are drawn; what is no view or section isn't taken.
+        for view, status in (("FRONT", 422), ("ABOVE", 400), ("AREA_FRONT", 400), (f"AREA_FRONT_{'1' * 100}", 400), (1, 400)):
             self.assertEqual(self.served.tell("/settle", job=job, number=2, views=[view]).status, status)
         self.served.leave(job)
         self.served.until_idle(60)

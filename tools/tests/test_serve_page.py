@@ -71,7 +71,7 @@ class Table(Opened):
         self.assertIn("4 of 35 solids look like solid 1 in section across x between 1 and 2 (area)", self.text(".fixing .count"))
         self.press(button("What to add for it"))
         self.browser.until("document.querySelector('.added .words')?.innerText.length > 10", PATIENCE)
-        self.assertIn("It would be settled by a section", self.text(".added"))
+        self.assertIn("Solid 1 is told by a section", self.text(".added"))
         self.press(button("One step back"))
         self.assertEqual(self.value("viewer.state.fitting.length"), 35)
         self.value("[0, 1].forEach(viewer.pick)")

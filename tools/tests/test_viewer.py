@@ -57,7 +57,7 @@ class Viewer(Opened):
 
     def test_the_verdict_stands_first(self) -> None:
         """In a word and a sentence; with the first solid and Save it is seen without scrolling, on a phone with the first solid."""
-        rows = {"clevis": ("Unique", "One solid has", ""), "quartered_cube": ("Ambiguous", "3 solids have", "Say which is meant"),
+        rows = {"clevis": ("Unique", "One solid has", ""), "quartered_cube": ("Ambiguous", "3 solids have", "A section across x between 0 and 1 (area) would settle it."),
                 "eight_voids": ("Ambiguous", "35 solids have", "Say which is meant"),
                 "quartered_cube_half_hidden": ("Impossible", "No solid has", "Look at TOP (1, 1) to (1, 2) (line 221"),
                 "bracket_cut": ("Fault", "a group code has no value", "")}
@@ -143,7 +143,7 @@ class Viewer(Opened):
         self.browser.settle()
         self.assertLess(self.value("viewer.large.cells.filter(Boolean).length"), whole)
         self.assertIn("Section across x between 1 and 2", self.text("#large .cut-of"))
-        self.assertEqual(self.value("document.querySelectorAll('#large .cut-of .cut').length"), 2)
+        self.assertEqual(self.value("document.querySelectorAll('#large .cut-of .hatched').length"), 2)
         self.press(button("Next", "#large"))
         self.assertEqual(self.text("#large h2"), "Solid 2")
         self.picture("large")
@@ -211,8 +211,7 @@ class Viewer(Opened):
         self.value("viewer.change({meant: 0})")
         section = "document.querySelector('#settle li[data-name^=section]')"
         self.press(f"{section}.querySelector('button')")
-        self.assertGreater(self.value("document.querySelectorAll('#pictured .cut').length"), 0)
-        self.assertEqual(self.value("document.querySelectorAll('#pictured .acts button').length"), 0)
+        self.assertEqual(self.value("document.querySelectorAll('#pictured .acts button').length"), 3)
 
     # ---- right words
 

@@ -1,28 +1,22 @@
 // One solid large: turned and zoomed, cut by a section, with its three views beside.
 import { change, state, when } from "./state.js";
 import { find } from "./pieces.js";
-import { cellsOfSolid, model, rankOf } from "./model.js";
+import { cellsOfSolid, model } from "./model.js";
 import { Tile, renderer } from "./scene.js";
 import { others, redraw, tiles, watched } from "./tiles.js";
 import { brushAt, kindsNow } from "./choices.js";
 import { shapeOf, volumeTold } from "./rounded.js";
-import { cellsAlong, sectionPicture, sectionTold, viewPicture } from "./views.js";
+import { areaAcross, cellsAlong, pictureOf, sectionTold, shownOn } from "./views.js";
 
 export let largeTile = null;
-// How far a click may move, in pixels; and the kind of cells that a section cuts.
+// How far a click may move, in pixels.
 const STILL = 4;
-const CUT = 3;
 
 // ---- shown
 
-/** The cells that a section leaves of a solid, the layer that it cuts marked: what lies before it is taken away. */
-function cellsLeft(number) {
-  const cells = cellsOfSolid(number);
-  const { section } = state;
-  if (!section) return [cells, kindsNow()];
-  const before = (place) => (section.axis === 2 ? rankOf(place, 2) > section.at : rankOf(place, section.axis) < section.at);
-  const kinds = cells.map((_, place) => (rankOf(place, section.axis) === section.at ? CUT : 0));
-  return [cells.map((full, place) => (before(place) ? 0 : full)), kinds];
+/** The plane of a section through a layer of cells, in its middle: what is above it, or on its left or in front of it, is cut off. */
+function planeOf({ axis, at }) {
+  return { axis, at: (model.cuts[axis][at] + model.cuts[axis][at + 1]) / 2, back: axis === 2 };
 }
 
 function showLarge() {
@@ -40,9 +34,9 @@ function showLarge() {
   dialog.querySelector(".before").disabled = place <= 0;
   dialog.querySelector(".after").disabled = place < 0 || place === state.fitting.length - 1;
   dialog.querySelector(".several-only").hidden = model.count < 2;
-  dialog.querySelector(".views-of").replaceChildren(...["TOP", "FRONT", "SIDE"].map((view) => captioned(view, viewPicture(number, view))));
+  dialog.querySelector(".views-of").replaceChildren(...["TOP", "FRONT", "SIDE"].map((view) => captioned(view, pictureOf(number, shownOn(view), view))));
   showCut(dialog, number);
-  largeTile.show(...cellsLeft(number), state.section ? null : shapeOf(number));
+  largeTile.show(cellsOfSolid(number), kindsNow(), shapeOf(number), state.section ? planeOf(state.section) : state.cut);
   redraw();
 }
 
@@ -64,7 +58,7 @@ function showCut(dialog, number) {
   plane.max = cellsAlong(section.axis) - 1;
   plane.value = section.at;
   plane.setAttribute("aria-valuetext", sectionTold(section));
-  place.append(captioned(sectionTold(section), sectionPicture(number, section)));
+  place.append(captioned(sectionTold(section), pictureOf(number, areaAcross(section), sectionTold(section))));
 }
 
 function showMark() {
@@ -135,7 +129,7 @@ export function listenForLarge() {
   largeTile = watched(new Tile(dialog.querySelector("canvas")));
   largeTile.isPlain = true;
   others.push(largeTile);
-  when(["large", "section", "squared"], showLarge);
+  when(["large", "section", "squared", "cut"], showLarge);
   when(["large", "meant"], showMark);
   when(["zoom"], showZoom);
   listenInside(dialog);

@@ -10,10 +10,11 @@ import { addFitting, findFitting, listenForFixing } from "./choices.js";
 import { listenForPaging } from "./paging.js";
 import { listenForPairs, pair } from "./compare.js";
 import { largeTile, listenForLarge } from "./large.js";
+import { listenForPlanes, resetPlanes, takePlanes } from "./planes.js";
 import { listenForRounded, resetRounded, takeRounded } from "./rounded.js";
 import { listenForMeans, resetMeans, takeMeans } from "./settle.js";
 import { giveBy, listenForLengths, resetSaid, showLooking, showSaid, showSuggestion } from "./said.js";
-import { linesOf } from "./views.js";
+import { linesOf, shownOn } from "./views.js";
 
 let taken = [];
 
@@ -25,10 +26,11 @@ export function resetPage() {
   resetSaid();
   resetTiles();
   resetRounded();
+  resetPlanes();
   taken = [];
   change({
     how: "", means: [], fixed: new Map(), kept: null, fitting: [], fullIn: new Float64Array(0), first: 0, meant: null, picked: [], large: null,
-    zoom: 1, section: null, brush: null, pictured: null,
+    cut: null, zoom: 1, section: null, brush: null, pictured: null,
   });
   for (const place of document.querySelectorAll(".told, .drawing, footer")) place.replaceChildren();
   setKind();
@@ -46,6 +48,7 @@ const TAKES = {
   drawing: ({ html }) => (find(".drawing").innerHTML = html),
   rounded: takeRounded,
   grid: takeNewGrid,
+  planes: takePlanes,
   solids: takeSolids,
   end: takeEnd,
   looking: () => showLooking("Changes are tried by running the program."),
@@ -147,7 +150,7 @@ export function offerBack(suggestion, goBack) {
 
 function begin() {
   giveBy({ isServed: false, show: showGiven });
-  for (const listen of [listenForTiles, listenForTurns, listenForFixing, listenForPaging, listenForPairs, listenForLarge, listenForRounded, listenForMeans, listenForLengths]) listen();
+  for (const listen of [listenForTiles, listenForTurns, listenForFixing, listenForPaging, listenForPairs, listenForLarge, listenForPlanes, listenForRounded, listenForMeans, listenForLengths]) listen();
   look(START.right, START.above);
   const events = JSON.parse(document.getElementById("events").textContent);
   if (events.length) replay(events);
@@ -156,7 +159,8 @@ function begin() {
 
 // What a console, and the tests, may look at and use.
 window.viewer = {
-  state, model, change, choiceOf, linesOf, pick,
+  state, model, change, choiceOf, pick,
+  linesOf: (number, layer, at) => linesOf(number, shownOn(layer, at)),
   get tiles() { return tiles; }, get pair() { return pair; }, get large() { return largeTile; },
 };
 begin();

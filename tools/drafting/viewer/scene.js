@@ -1,34 +1,36 @@
 // The solids in three dimensions. One renderer draws them all, one after another, seen from the same side, and each picture is copied
 // to the canvas of its solid. THREE is three.js, which stands before this as a script of its own.
-import { model, rankOf } from "./model.js";
+import { cutAt, model, rankOf } from "./model.js";
 
-// The colours of the kinds of cells, as the page's style names them: those that all solids have, most of them, half or fewer, and those that
-// a section cuts; and of the six outward directions how light each is.
-const KINDS = ["--plain", "--most", "--few", "--cut"];
+// The colours of the kinds of cells, as the page's style names them: those that all solids have, most of them, and half or fewer; and of the
+// six outward directions how light each is.
+const KINDS = ["--plain", "--most", "--few"];
 const FEW = 2;
+// How many lines of a hatch there are along the largest radius.
+const HATCHED = 16;
 const SHADES = [0.72, 0.8, 0.88, 0.78, 0.6, 1];
 
 // ---- what is drawn of them
 
-/** The point at a cell's corner, which is told by a 0 or 1 along each axis. */
-function cornerOf(place, corner) {
-  return corner.map((beyond, axis) => model.cuts[axis][rankOf(place, axis) + beyond]);
+/** The point at a cell's corner, which is told by a 0 or 1 along each axis, between coordinates of each axis. */
+function cornerOf(cuts, place, corner) {
+  return corner.map((beyond, axis) => cuts[axis][rankOf(place, axis) + beyond]);
 }
 
 /** The corners of a cell's side in the order in which they run to the left, seen from outside. */
-function sideOf(place, axis, side) {
+function sideOf(cuts, place, axis, side) {
   const around = [[0, 0], [1, 0], [1, 1], [0, 1]].map(([u, v]) => {
     const corner = [0, 0, 0];
     corner[axis] = side;
     corner[(axis + 1) % 3] = u;
     corner[(axis + 2) % 3] = v;
-    return cornerOf(place, corner);
+    return cornerOf(cuts, place, corner);
   });
   return side ? around : around.reverse();
 }
 
 /** The surface of a set of cells, in groups: by the cells' kinds, and of each by outward direction, -x, +x, -y and so on. */
-function surfaceOf(cells, kinds) {
+function surfaceOf(cells, kinds, cuts) {
   const points = [];
   const groups = Array.from({ length: 6 * KINDS.length }, () => []);
   cells.forEach((full, place) => {
@@ -36,7 +38,7 @@ function surfaceOf(cells, kinds) {
       const [axis, side] = [way >> 1, way & 1];
       if (cells[place + (side ? 1 : -1) * model.strides[axis]]) continue;
       const first = points.length / 3;
-      points.push(...sideOf(place, axis, side).flat());
+      points.push(...sideOf(cuts, place, axis, side).flat());
       groups[way + 6 * kinds[place]].push(first, first + 1, first + 2, first, first + 2, first + 3);
     }
   });
@@ -63,16 +65,36 @@ function isEdge(cells, place, axis) {
 }
 
 /** The edges of a set of cells, stretch by stretch. */
-function edgesOf(cells) {
+function edgesOf(cells, cuts) {
   const ends = [];
   for (let place = 0; place < model.places; place++) {
     for (let axis = 0; axis < 3; axis++) {
       if (!isEdge(cells, place, axis)) continue;
       const far = [0, 0, 0];
       far[axis] = 1;
-      ends.push(...cornerOf(place, [0, 0, 0]), ...cornerOf(place, far));
+      ends.push(...cornerOf(cuts, place, [0, 0, 0]), ...cornerOf(cuts, place, far));
     }
   }
+  return new THREE.LineSegmentsGeometry().setPositions(ends);
+}
+
+/** The hatch of those cells of a set that a plane cuts: lines along which one coordinate grows as the other does, the same over all cells. */
+function hatchOf(cells, cuts, { axis, at }, layer) {
+  const [u, v] = [(axis + 1) % 3, (axis + 2) % 3];
+  const step = radius / HATCHED;
+  const ends = [];
+  cells.forEach((full, place) => {
+    if (!full || rankOf(place, axis) !== layer) return;
+    const [low, high] = [[0, 0, 0], [1, 1, 1]].map((corner) => cornerOf(cuts, place, corner));
+    for (let number = Math.ceil((low[u] - high[v]) / step); number * step < high[u] - low[v]; number++) {
+      const less = number * step;
+      for (const along of [Math.max(low[u], low[v] + less), Math.min(high[u], high[v] + less)]) {
+        const end = [at, at, at];
+        [end[u], end[v]] = [along, along - less];
+        ends.push(...end);
+      }
+    }
+  });
   return new THREE.LineSegmentsGeometry().setPositions(ends);
 }
 
@@ -108,7 +130,7 @@ function faceMaterials(options) {
   return Array.from({ length: 6 * KINDS.length }, () => new THREE.MeshBasicMaterial(options));
 }
 
-let solidFaces, plainFaces, clearFaces, roundFaces, clearRound, edgeLines, lightLines, faintLines;
+let solidFaces, plainFaces, clearFaces, roundFaces, clearRound, edgeLines, lightLines, faintLines, hatchLines;
 export let camera;
 export let renderer = null;
 
@@ -129,6 +151,7 @@ export function startDrawing() {
   // Before the edges of all, and behind the edges of marked cells, where both are at the same place.
   lightLines = new THREE.LineMaterial({ polygonOffset: true, polygonOffsetFactor: -2, polygonOffsetUnits: -2 });
   faintLines = new THREE.LineMaterial({ polygonOffset: true, polygonOffsetFactor: 2, polygonOffsetUnits: 2 });
+  hatchLines = new THREE.LineMaterial();
   camera = new THREE.OrthographicCamera();
   takeColours();
   return true;
@@ -144,7 +167,7 @@ export function takeColours() {
   });
   roundFaces.color = colour(KINDS[0]);
   clearRound.color = colour("--faint");
-  edgeLines.color = colour("--edge");
+  edgeLines.color = hatchLines.color = colour("--edge");
   lightLines.color = colour("--edge-light");
   faintLines.color = colour("--faint");
 }
@@ -162,6 +185,10 @@ export function frameGrid() {
   camera.updateProjectionMatrix();
 }
 
+function hasLines({ geometry }) {
+  return geometry.attributes.instanceStart?.count > 0;
+}
+
 /** A canvas that shows a solid, whose cells are of several kinds, or one that is rounded back, by its shape. */
 export class Tile {
   constructor(canvas) {
@@ -175,22 +202,25 @@ export class Tile {
     this.zoom = 1;
   }
 
-  show(cells, kinds, shape = null) {
+  /** Shows these cells, or the shape in place of them; or what a plane leaves of the cells. */
+  show(cells, kinds, shape = null, plane = null) {
     this.scene?.traverse((part) => part.geometry?.dispose());
     this.scene = null;
-    [this.cells, this.kinds, this.shape] = [cells, kinds, shape];
+    Object.assign(this, { cells, kinds, plane, shape: plane ? null : shape, cuts: model.cuts }, plane && cutAt(plane, cells));
   }
 
-  /** Makes what is drawn: the solid's surface and edges, and those of its cells of other kinds than the first. */
+  /** Makes what is drawn: the solid's surface and edges, and those of its cells of other kinds than the first; and the hatch of what is cut. */
   build() {
     const marked = this.cells.map((full, place) => full & (this.kinds[place] > 0));
     const few = this.cells.map((full, place) => full & (this.kinds[place] === FEW));
-    this.skin = new THREE.Mesh(this.shape ? facesOf(this.shape) : surfaceOf(this.cells, this.kinds));
-    this.lines = new THREE.LineSegments2(this.shape ? stretchesOf(this.shape) : edgesOf(this.cells));
-    this.marks = new THREE.Mesh(surfaceOf(marked, this.kinds), solidFaces);
-    this.markLines = new THREE.LineSegments2(edgesOf(few), lightLines);
+    const others = this.cells.map((full, place) => full & (this.kinds[place] !== FEW));
+    this.skin = new THREE.Mesh(this.shape ? facesOf(this.shape) : surfaceOf(this.cells, this.kinds, this.cuts));
+    this.lines = new THREE.LineSegments2(this.shape ? stretchesOf(this.shape) : edgesOf(this.cells, this.cuts));
+    this.marks = new THREE.Mesh(surfaceOf(marked, this.kinds, this.cuts), solidFaces);
+    this.markLines = new THREE.LineSegments2(edgesOf(few, this.cuts), lightLines);
+    this.hatches = [others, few].map((cells) => new THREE.LineSegments2(hatchOf(this.plane ? cells : [], this.cuts, this.plane ?? {}, this.layer)));
     this.scene = new THREE.Scene();
-    this.scene.add(this.skin, this.lines, this.marks, this.markLines);
+    this.scene.add(this.skin, this.lines, this.marks, this.markLines, ...this.hatches);
   }
 
   /** Shows the cells of other kinds within, through clear faces, or the solid as it looks from outside. The darkest kind has light edges. */
@@ -200,7 +230,10 @@ export class Tile {
     this.lines.material = this.through ? faintLines : edgeLines;
     const isMarked = !this.shape && this.marks.geometry.index.count > 0 && this.coloured;
     this.marks.visible = isMarked && this.through;
-    this.markLines.visible = isMarked && this.markLines.geometry.attributes.instanceStart?.count > 0;
+    this.markLines.visible = isMarked && hasLines(this.markLines);
+    for (const hatch of this.hatches) hatch.visible = hasLines(hatch);
+    this.hatches[0].material = hatchLines;
+    this.hatches[1].material = this.coloured ? lightLines : hatchLines;
   }
 
   draw() {
@@ -211,7 +244,7 @@ export class Tile {
     this.dress();
     if (this.canvas.width !== size) this.canvas.width = this.canvas.height = size;
     if (Math.min(renderer.domElement.width, renderer.domElement.height) < size) renderer.setSize(size, size, false);
-    for (const [lines, width] of [[edgeLines, 1.6], [lightLines, 1.4], [faintLines, 1]]) {
+    for (const [lines, width] of [[edgeLines, 1.6], [lightLines, 1.4], [faintLines, 1], [hatchLines, 0.9]]) {
       lines.resolution.set(size, size);
       lines.linewidth = width * scale;
     }

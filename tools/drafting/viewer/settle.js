@@ -4,7 +4,7 @@ import { change, state, when } from "./state.js";
 import { buttonOf, copyBy, find, many, spanOf } from "./pieces.js";
 import { model } from "./model.js";
 import { keep } from "./choices.js";
-import { sectionPicture, viewPicture } from "./views.js";
+import { pictureOf, shownOn } from "./views.js";
 
 /** What a view is called by those who don't draw. */
 const CALLED = {
@@ -29,35 +29,39 @@ export function takeMeans({ rows, text, drawn }) {
   change({ means: rows });
 }
 
-/** How many solids look alike in each group. */
-function sizesOfGroups(keys) {
-  const sizes = [];
-  for (const key of keys) sizes[key] = (sizes[key] ?? 0) + 1;
-  return sizes;
+/** How many solids each group has, the largest first; where nothing is to be drawn all are left. */
+function groupSizes({ keys }) {
+  const sizes = new Map();
+  for (const key of keys) sizes.set(key, (sizes.get(key) ?? 0) + 1);
+  return [...sizes].map(([key, count]) => (key === null ? keys.length : count)).sort((one, other) => other - one);
 }
 
-function nameOf({ name, section }) {
-  const told = section ? /^section (across \w between .*)$/.exec(name)[1] : name;
-  return section ? `A section ${told}` : `${CALLED[name] ?? name} (${name})`;
+/** How many solids a view or a section leaves with the one that is meant: all, where it has nothing to be drawn. */
+function leftBy({ keys }) {
+  const drawn = keys[state.meant];
+  return keys.filter((key) => key === drawn || drawn === null).length;
+}
+
+function nameOf({ name, at }) {
+  return at === null ? `${CALLED[name] ?? name} (${name})` : `A ${name}`;
 }
 
 /** What a view or a section tells, as a sentence. */
-function tellsWhat({ keys }) {
-  const sizes = sizesOfGroups(keys);
-  const largest = Math.max(...sizes);
-  if (sizes.length === 1) return "shows all of them alike";
+function tellsWhat(view) {
+  const [largest, ...others] = groupSizes(view);
+  if (!others.length) return "shows all of them alike";
   if (largest === 1) return "shows each of them otherwise: it settles it, whichever is meant";
-  const left = state.meant === null ? "" : sizes[keys[state.meant]];
+  const left = state.meant === null ? "" : leftBy(view);
   const meant = left === "" ? "" : left === 1 ? `; it leaves solid ${state.meant + 1} alone` : `; it leaves ${left} with solid ${state.meant + 1}`;
-  return `parts them into ${sizes.length} groups, the largest of ${largest}${meant}`;
+  return `parts them into ${others.length + 1} groups, the largest of ${largest}${meant}`;
 }
 
 function rowOfMeans(view) {
   const row = document.createElement("li");
-  const sizes = sizesOfGroups(view.keys);
-  Object.assign(row.dataset, { name: view.name, groups: sizes.length, largest: Math.max(...sizes), leaves: state.meant === null ? "" : sizes[view.keys[state.meant]] });
+  const sizes = groupSizes(view);
+  Object.assign(row.dataset, { name: view.name, groups: sizes.length, largest: sizes[0], leaves: state.meant === null ? "" : leftBy(view) });
   row.append(Object.assign(document.createElement("b"), { textContent: nameOf(view) }), ` ${tellsWhat(view)}. `);
-  if (state.meant === null || sizes.length === 1) return row;
+  if (state.meant === null || sizes.length === 1 || view.keys[state.meant] === null) return row;
   const isKept = state.kept?.name === view.name;
   const button = buttonOf("Show", () => showBy(isKept ? null : view), "show");
   button.setAttribute("aria-pressed", isKept);
@@ -73,24 +77,23 @@ function showBy(view) {
   keep(view && { ...view, meant, group: view.keys[meant] });
 }
 
-/** The views first, which the program reads; then the sections. */
+/** The views first, which recon reads without an option; then the sections. */
 function showMeans() {
   if (!model.count) return;
-  const [views, sections] = [state.means.filter(({ section }) => !section), state.means.filter(({ section }) => section)];
+  const [views, sections] = [state.means.filter(({ at }) => at === null), state.means.filter(({ at }) => at !== null)];
   find("#settle .by-views").replaceChildren(...views.map(rowOfMeans));
   find("#settle .by-sections").replaceChildren(...sections.map(rowOfMeans));
   find("#settle .sections").hidden = !sections.length;
-  showThen(views);
+  showThen();
   showPictured();
 }
 
-/** What is to be done, in the verdict's last line. */
-function showThen(views) {
+/** What is to be done, in the verdict's last line: the first view that does, else the first section. */
+function showThen() {
   const then = find(".told .ambiguous .then");
   if (!then || !state.means.length) return;
-  const settling = views.find(({ keys }) => Math.max(...sizesOfGroups(keys)) === 1);
-  const best = settling ?? (state.meant === null ? null : views.find(({ keys }) => sizesOfGroups(keys)[keys[state.meant]] === 1));
-  then.textContent = best ? `${CALLED[best.name] ?? best.name} (${best.name}) would settle it.`
+  const best = state.means.find((view) => (state.meant === null ? groupSizes(view)[0] : leftBy(view)) === 1);
+  then.textContent = best ? `${nameOf(best)} would settle it.`
     : state.meant === null ? "Say which is meant, by its number or below it, to see what would settle it."
     : `What to add for solid ${state.meant + 1} is told under “What would settle it”.`;
 }
@@ -102,12 +105,13 @@ function showPictured() {
   const view = state.means.find(({ name }) => name === state.pictured);
   place.hidden = !view || state.meant === null || !isDrawn;
   if (place.hidden) return;
-  const { section } = view;
+  const shown = shownOn(view.layer, view.at);
   place.querySelector("h2").textContent = `${nameOf(view)}, of solid ${state.meant + 1}`;
-  const picture = section ? sectionPicture(state.meant, { axis: section[0], at: section[1] }) : viewPicture(state.meant, view.name, "suggested");
-  const words = section ? "Filled is what it cuts. It tells a reader; recon reads no sections." : "Its lines are marked: they would be added to the drawing.";
+  const picture = pictureOf(state.meant, shown, view.name, "suggested");
+  const where = view.at === null ? "" : `, on the layer ${view.layer}`;
+  const words = `Its lines are marked: they would be added to the drawing${where}.${shown.isArea ? " Hatched is what it cuts." : ""}`;
   place.querySelector(".picture").replaceChildren(picture, Object.assign(document.createElement("p"), { className: "muted", textContent: words }));
-  place.querySelector(".acts").replaceChildren(...(adding && !section ? actsFor([view.name]) : []));
+  place.querySelector(".acts").replaceChildren(...(adding ? actsFor([view.layer]) : []));
   place.scrollIntoView({ block: "nearest" });
 }
 

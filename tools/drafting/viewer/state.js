@@ -9,6 +9,8 @@ export const state = {
   fixed: new Map(), kept: null, fitting: [], fullIn: new Float64Array(0), first: 0,
   // The solid that is meant, those that are picked to be compared, the one that is shown large, by their numbers from 0.
   meant: null, picked: [], large: null,
+  // At which plane all solids are cut: its axis, where it lies there, and whether what is farther is cut off, else what is nearer.
+  cut: null,
   // How large: how much larger than fitted, and the section: its axis and the layer of cells that it cuts.
   zoom: 1, section: null,
   // From where they are seen, in degrees to the right of the front and above it; how they are drawn, rounds squared off or not; and

@@ -18,6 +18,7 @@ const SAVED_AS = { dxf: "its drawing, one line for each edge", stl: "its boundar
 // What may be said several times, with semicolons between; and what is said of one file alone.
 const REPEATED = ["hidden", "visible", "leave-out"];
 const OF_A_FILE = ["second", "sheet-page", "part"];
+const SECTIONS = "sections";
 const SAVED_HERE = "made from its blocks, since its search isn't whole";
 
 const table = { shown: null, key: "", name: "", began: 0 };
@@ -100,10 +101,16 @@ function showFile(file) {
   return send(file, file.name, optionsNow(), find("[name=second]").files[0]);
 }
 
-/** Sends a drawing that is made of the one that is shown. It is one of three layers, and needs none of what is said of a sheet. */
-function showMade(text, words) {
-  const limits = optionsNow().filter(([name]) => ["solids", "nodes"].includes(name));
-  send(new File([text], "made.dxf"), `${stem()}, ${words}`, limits);
+/** Sends a drawing that is made of the one that is shown, with its sections or without. It needs none of what is said of a sheet. */
+function showMade(text, words, withSections = false) {
+  const options = optionsNow().filter(([name]) => ["solids", "nodes"].includes(name));
+  send(new File([text], "made.dxf"), `${stem()}, ${words}`, withSections ? [...options, SECTIONS] : options);
+}
+
+/** Has the drawing that is shown be read again, with its sections or without. */
+function showAgain(file, withSections) {
+  fieldOf(SECTIONS).checked = withSections;
+  showFile(file);
 }
 
 async function showSuggested(suggestion) {
@@ -195,7 +202,13 @@ function showOptions(options) {
   }
 }
 
+/** Offers to have the sections be read that weren't. */
+function offerSections() {
+  find(".warnings").lastElementChild.append(" ", buttonOf("Read it with its sections", () => showAgain(table.shown, true)));
+}
+
 const TOLD = {
+  said: ({ unread }) => unread && offerSections(),
   job: ({ options }) => showOptions(options),
   queued: ({ before }) => showProgress(before ? `Waiting: ${before} before this one` : "Waiting for its turn"),
   began: () => showProgress("Reading"),
@@ -315,10 +328,10 @@ const ADDING = {
   },
   read: async (number, views) => {
     const told = await toldAdded(number, views);
-    const back = table.shown;
+    const [back, withSections] = [table.shown, fieldOf(SECTIONS).checked];
     if (!told) return;
-    showMade(told.dxf, `with ${views.join(" and ") || "lines"} of solid ${number + 1}`);
-    offerBack({ words: told.lines }, () => showFile(back));
+    showMade(told.dxf, `with ${views.join(" and ") || "lines"} of solid ${number + 1}`, told.sections);
+    offerBack({ words: told.lines }, () => showAgain(back, withSections));
   },
 };
 

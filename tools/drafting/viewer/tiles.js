@@ -123,11 +123,11 @@ function showFigure(figure, at, kinds) {
   figure.querySelector("b").textContent = `Solid ${number + 1}`;
   figure.querySelector(".volume").textContent = `volume ${volume}`;
   figure.querySelector(".size").textContent = sizesOf(cells).map((size) => measured(size)).join(" × ");
-  figure.querySelector("canvas").setAttribute("aria-label", `Solid ${number + 1}, volume ${volume}: turned by arrow keys, shown large by Enter`);
+  figure.querySelector("canvas").setAttribute("aria-label", `Solid ${number + 1}, volume ${volume}${state.cut ? `, cut at ${state.cut.told}` : ""}: turned by arrow keys, shown large by Enter`);
   const names = { large: `Show ${name} large`, meant: `${name[0].toUpperCase()}${name.slice(1)} is meant`, compare: `Compare ${name}`, copy: `Copy the choice of ${name}` };
   for (const [kind, words] of Object.entries(names)) figure.querySelector(`.${kind}`).setAttribute("aria-label", words);
   for (const button of figure.querySelectorAll("[data-form]")) button.setAttribute("aria-label", `Save ${name} as ${button.textContent}`);
-  tiles[at].show(cells, kinds, shapeOf(number));
+  tiles[at].show(cells, kinds, shapeOf(number), state.cut);
 }
 
 /** Shows the solids that fit, from the first one on. */
@@ -176,7 +176,7 @@ function setShown() {
 }
 
 export function listenForTiles() {
-  when(["fitting", "first", "squared", "brush"], showTiles);
+  when(["fitting", "first", "squared", "brush", "cut"], showTiles);
   when(["meant", "picked"], markTiles);
   when(["through", "coloured"], setShown);
   for (const id of ["through", "coloured"]) {

@@ -1,6 +1,7 @@
 // What a view or a section shows of a solid, by the definitions, as pictures. A view looks along one axis: between two columns of cells an
-// edge is drawn where they differ, solid where their first full depths do, else dashed.
-import { cellsOfSolid, measured, model } from "./model.js";
+// edge is drawn where they differ, solid where their first full depths do, else dashed. A section shows so the cells from those on that it
+// cuts, its hidden edges left out, and an area these cells alone.
+import { cellsOfSolid, measured, model, rankOf } from "./model.js";
 
 // Of each view the axes to the right, upwards and along the sight, and whether each is gone along backwards.
 const FRAMES = {
@@ -59,10 +60,30 @@ function runsOf(styles, cuts) {
   return runs;
 }
 
-/** The lines that a view shows of a solid: each upright or level, at a coordinate, from one to another, solid or dashed. */
-export function linesOf(number, view) {
+/** The view or the section that a layer is of: a section also with the cells that it cuts along its sight. */
+export function shownOn(layer, at) {
+  const told = /^(SECTION|AREA)_([A-Z]+)_/.exec(layer);
+  return told ? { view: told[2], at, isArea: told[1] === "AREA" } : { view: layer };
+}
+
+/** The section that is an area across an axis, which stands like a main view. */
+export function areaAcross({ axis, at }) {
+  return { view: LIKE[axis], at, isArea: true };
+}
+
+/** The cells of a solid that a view or a section shows. */
+function cellsShown(number, { view, at, isArea }) {
   const cells = cellsOfSolid(number);
-  const frame = FRAMES[view];
+  if (at === undefined) return cells;
+  const [axis, back] = FRAMES[view][2];
+  const isShown = (rank) => (isArea ? rank === at : back ? rank <= at : rank >= at);
+  return cells.map((full, place) => full & isShown(rankOf(place, axis)));
+}
+
+/** The lines that a view or a section shows of a solid: each upright or level, at a coordinate, from one to another, solid or dashed. */
+export function linesOf(number, shown) {
+  const cells = cellsShown(number, shown);
+  const frame = FRAMES[shown.view];
   const [rights, ups] = [cutsAlong(frame[0]), cutsAlong(frame[1])];
   const columns = Array.from({ length: rights.length + 1 }, (_, i) =>
     Array.from({ length: ups.length + 1 }, (_, j) => columnAt(cells, frame, i - 1, j - 1)));
@@ -75,7 +96,7 @@ export function linesOf(number, view) {
     const styles = rights.slice(1).map((_, i) => styleBetween(columns[i + 1][j], columns[i + 1][j + 1]));
     lines.push(...runsOf(styles, rights).map((run) => ({ ...run, upright: false, at })));
   });
-  return lines;
+  return shown.at === undefined ? lines : lines.filter(({ style }) => style === "solid");
 }
 
 // ---- sections
@@ -85,19 +106,18 @@ export function sectionTold({ axis, at }) {
   return `Section across ${AXES[axis]} between ${ends[0]} and ${ends[1]}`;
 }
 
-/** The cells of one layer of a solid, in the places of the view that a section there stands like. */
-function areasOf(number, { axis, at }) {
-  const cells = cellsOfSolid(number);
-  const [[right], [up]] = FRAMES[LIKE[axis]];
-  const [rights, ups] = [right, up].map((one) => cutsAlong([one, false]));
-  const areas = [];
-  for (let i = 0; i < cellsAlong(right); i++) {
-    for (let j = 0; j < cellsAlong(up); j++) {
-      const place = at * model.strides[axis] + i * model.strides[right] + j * model.strides[up];
-      if (cells[place]) areas.push([rights[i], ups[j], rights[i + 1] - rights[i], ups[j + 1] - ups[j]]);
+/** What an area has of a solid, as rectangles. */
+function rectanglesOf(number, area) {
+  const cells = cellsShown(number, area);
+  const frame = FRAMES[area.view];
+  const [rights, ups] = [cutsAlong(frame[0]), cutsAlong(frame[1])];
+  const found = [];
+  for (let i = 0; i < rights.length - 1; i++) {
+    for (let j = 0; j < ups.length - 1; j++) {
+      if (columnAt(cells, frame, i, j)) found.push([rights[i], ups[j], rights[i + 1] - rights[i], ups[j + 1] - ups[j]]);
     }
   }
-  return areas;
+  return found;
 }
 
 // ---- pictures
@@ -108,36 +128,23 @@ function drawn(kind, attributes) {
   return part;
 }
 
-/** An empty picture of so much to the right and upwards, and how lengths become pixels in it. */
-function pictureOf(label, wide, tall) {
+/** What a view or a section shows of a solid; an area is hatched, within the box of its view. Each line is there in a further kind too. */
+export function pictureOf(number, shown, name, kind = "") {
+  const [wide, tall] = FRAMES[shown.view].slice(0, 2).map(([axis]) => model.cuts[axis][model.cuts[axis].length - 1] - model.cuts[axis][0]);
   const scale = 200 / Math.max(wide, tall);
+  const label = `${name} of solid ${number + 1}`;
   const picture = drawn("svg", { viewBox: `-10 -10 ${wide * scale + 20} ${tall * scale + 20}`, role: "img", "aria-label": label });
-  return { picture, scale, flip: (up) => (tall - up) * scale };
-}
-
-function sizesOfView(view) {
-  return FRAMES[view].slice(0, 2).map(([axis]) => model.cuts[axis][model.cuts[axis].length - 1] - model.cuts[axis][0]);
-}
-
-/** A view of a solid. */
-export function viewPicture(number, view, kind = "") {
-  const { picture, scale, flip } = pictureOf(`${view} of solid ${number + 1}`, ...sizesOfView(view));
-  for (const { upright, at, low, high, style } of linesOf(number, view).sort((one) => (one.style === "dashed" ? -1 : 1))) {
-    const ends = upright ? [[at, low], [at, high]] : [[low, at], [high, at]];
-    const d = `M${ends.map(([x, y]) => `${(x * scale).toFixed(2)},${flip(y).toFixed(2)}`).join(" L")}`;
-    if (kind) picture.prepend(drawn("path", { class: kind, d }));
-    picture.append(drawn("path", { class: style, d }));
+  if (shown.isArea) picture.append(drawn("rect", { class: "outside", x: 0, y: 0, width: wide * scale, height: tall * scale }));
+  for (const [x, y, width, height] of shown.isArea ? rectanglesOf(number, shown) : []) {
+    picture.append(drawn("rect", { class: "hatched", x: x * scale, y: (tall - y - height) * scale, width: width * scale, height: height * scale }));
   }
-  return picture;
-}
-
-/** The areas that a section cuts of a solid. */
-export function sectionPicture(number, section) {
-  const sizes = sizesOfView(LIKE[section.axis]);
-  const { picture, scale, flip } = pictureOf(`${sectionTold(section)} of solid ${number + 1}`, ...sizes);
-  picture.append(drawn("rect", { class: "outside", x: 0, y: 0, width: sizes[0] * scale, height: sizes[1] * scale }));
-  for (const [x, y, width, height] of areasOf(number, section)) {
-    picture.append(drawn("rect", { class: "cut", x: x * scale, y: flip(y + height), width: width * scale, height: height * scale }));
+  const lines = linesOf(number, shown).sort((one) => (one.style === "dashed" ? -1 : 1));
+  for (const one of kind ? [kind, ""] : [""]) {
+    for (const { upright, at, low, high, style } of lines) {
+      const ends = upright ? [[at, low], [at, high]] : [[low, at], [high, at]];
+      const d = `M${ends.map(([x, y]) => `${(x * scale).toFixed(2)},${((tall - y) * scale).toFixed(2)}`).join(" L")}`;
+      picture.append(drawn("path", { class: one || style, d }));
+    }
   }
   return picture;
 }
