@@ -1,10 +1,10 @@
 """The drawings that a table is of, and the table as it is written."""
 import csv
-import io
+import itertools
 import json
 import os
-from collections.abc import Iterator
-from typing import BinaryIO, NamedTuple
+from collections.abc import Iterable, Iterator
+from typing import Any, BinaryIO, NamedTuple
 
 from . import records
 from .messages import Refused, say
@@ -73,19 +73,39 @@ def left_out(failure: OSError) -> None:
 
 # ---- what is written
 
-def written(rows: list[Row], form: str | None) -> bytes:
-    """The table. A name that is no text has its own bytes in it."""
+def written(rows: Iterable[Row], form: str | None) -> Iterator[bytes]:
+    """The table, a line after the other, of rows that can be gone through twice. A name that is no text has its own bytes in it."""
     if form == "json":
-        return "".join(json.dumps(record_of(row)) + "\n" for row in rows).encode()
-    texts = [["" if row.get(column) is None else told(column, row[column]) for column in COLUMNS] for row in rows]
-    if form == "csv":
-        out = io.StringIO()
-        csv.writer(out, lineterminator="\n").writerows([COLUMNS, *texts])
-        return out.getvalue().encode("utf-8", "surrogateescape")
-    cells = [[*COLUMNS], *([in_line(cell) for cell in row] for row in texts)]
-    widths = [max(map(len, column)) for column in zip(*cells)][:-1]
-    lines = (" ".join([*(cell.ljust(width) for cell, width in zip(row, widths)), row[-1]]).rstrip() for row in cells)
-    return "".join(f"{line}\n" for line in lines).encode()
+        return (json.dumps(record_of(row)).encode() + b"\n" for row in rows)
+    return in_lines(rows) if form == "csv" else in_columns(rows)
+
+
+def cells_of(row: Row) -> list[str]:
+    return ["" if row.get(column) is None else told(column, row[column]) for column in COLUMNS]
+
+
+class Line:
+    """Where what writes CSV writes to: it answers what it is given."""
+
+    @staticmethod
+    def write(text: str) -> bytes:
+        return text.encode("utf-8", "surrogateescape")
+
+
+def in_lines(rows: Iterable[Row]) -> Iterator[bytes]:
+    lines: Any = csv.writer(Line, lineterminator="\n")
+    return (lines.writerow(cells) for cells in itertools.chain([COLUMNS], map(cells_of, rows)))
+
+
+def in_columns(rows: Iterable[Row]) -> Iterator[bytes]:
+    def cells() -> Iterator[list[str]]:
+        return itertools.chain([[*COLUMNS]], (list(map(in_line, cells_of(row))) for row in rows))
+
+    widths = [0] * (len(COLUMNS) - 1)
+    for row in cells():
+        widths = [max(width, len(cell)) for width, cell in zip(widths, row)]
+    for row in cells():
+        yield " ".join([*(cell.ljust(width) for cell, width in zip(row, widths)), row[-1]]).rstrip().encode() + b"\n"
 
 
 def record_of(row: Row) -> records.Record:

@@ -5,7 +5,7 @@ import signal
 import sys
 import tempfile
 import time
-from collections.abc import Callable, Sequence
+from collections.abc import Callable, Iterable, Sequence
 from types import FrameType
 from typing import Any
 
@@ -70,19 +70,20 @@ class Progress:
             cls.shown, cls.last = True, time.monotonic()
 
 
-def write_result(text: str | bytes, path: str | None) -> None:
-    """Writes a result to a file, which is there whole or not at all, or to standard output. It is called once, last."""
+def write_result(result: str | bytes | Iterable[bytes], path: str | None) -> None:
+    """Writes a result, whole or in pieces, to a file, which is there whole or not at all, or to standard output. It is called once, last."""
     Progress.clear()
-    data = text.encode() if isinstance(text, str) else text
+    text = result.encode() if isinstance(result, str) else result
+    pieces = [text] if isinstance(text, bytes) else text
     if path is None:
-        sys.stdout.buffer.write(data)
+        sys.stdout.buffer.writelines(pieces)
         sys.stdout.buffer.flush()
         return
     target = pathlib.Path(path)
     handle, part = tempfile.mkstemp(prefix=f".{target.name}.", dir=target.parent)
     try:
         with os.fdopen(handle, "wb") as file:
-            file.write(data)
+            file.writelines(pieces)
         umask = os.umask(0)
         os.umask(umask)
         os.chmod(part, 0o666 & ~umask)

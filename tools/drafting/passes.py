@@ -13,9 +13,8 @@ from .batch import CHANGED, Drawing, text_of
 from .listed import Place
 from .machines import HERE, Carrier, Machine, fit, told_name
 from .messages import Progress, many, say
-from .program import CUT_NODES, CUT_SOLIDS
 from .reading import MOST_BYTES
-from .rows import FAILED, LOST, REFUSED, Row, Rows, key_of
+from .rows import FAILED, LOST, REFUSED, Key, Row, Rows, key_of
 
 # The most drawings of a batch in each pass; the batches that few drawings are cut into, and how many of them a processor here has at least,
 # for each machine.
@@ -37,35 +36,34 @@ PASSES = (Limits(2_000, 100), Limits(1_000_000, 4_096))
 
 
 class Table:
-    """The drawings, and the rows that there are of them."""
+    """The drawings, and the rows that there are of them, which it gives in their order as often as it is asked."""
 
     def __init__(self, places: list[Place], rows: Rows, program: pathlib.Path, words: list[str], limits: list[str]) -> None:
         self.places, self.rows, self.program, self.words, self.limits = places, rows, program, words, limits
         self.stands_on = sums.of(program)
-        self.common = [key_of(limits, words, self.stands_on) for limits in PASSES]
-        self.keys: list[dict[int, str]] = [{} for _ in PASSES]
+        self.common = [key_of(limits, words, self.stands_on).hex() for limits in PASSES]
         self.lost: dict[int, str] = {number: place.trouble for number, place in enumerate(places) if place.trouble}
 
-    def key(self, number: int, at: int) -> str:
+    def key(self, number: int, at: int) -> Key:
         """What names a drawing's row."""
-        found = self.keys[at].get(number)
-        if found is None:
-            place = self.places[number]
-            found = self.keys[at][number] = key_of(self.common[at], place.path, place.size, place.time)
-        return found
+        place = self.places[number]
+        return key_of(self.common[at], place.path, place.size, place.time)
 
-    def failed_key(self, number: int, at: int) -> str:
+    def failed_key(self, number: int, at: int) -> Key:
         """The name of one that failed: it has failed within these limits alone."""
-        return key_of(self.key(number, at), self.limits)
+        return key_of(self.key(number, at).hex(), self.limits)
 
-    def row(self, number: int, at: int) -> Row | None:
-        return self.rows.get(self.key(number, at)) or (self.rows.get(self.failed_key(number, at)) if self.rows.have_failed else None)
+    def kept_key(self, number: int, at: int) -> Key | None:
+        """The name of the row that there is, if there is one."""
+        if (key := self.key(number, at)) in self.rows:
+            return key
+        return failed if self.rows.have_failed and (failed := self.failed_key(number, at)) in self.rows else None
 
     def take(self, number: int, at: int, row: Row) -> None:
         """Keeps a row, unless it is lost."""
         if row["status"] == LOST:
             self.lost[number] = row["message"]
-        elif self.row(number, at) is None:
+        elif self.kept_key(number, at) is None:
             name = self.failed_key if row["status"] == FAILED else self.key
             self.rows.add(name(number, at), {**row, "file": self.places[number].path})
 
@@ -75,16 +73,27 @@ class Table:
         return [number for number in numbers if not at or self.is_cut(number)]
 
     def is_cut(self, number: int) -> bool:
-        first = self.row(number, 0)
-        return first is not None and first["status"] in (CUT_NODES, CUT_SOLIDS)
+        return self.rows.is_cut(self.key(number, 0))
 
-    def last(self, number: int) -> Row:
-        """The row that the table shows: that of the last pass that is for the drawing."""
-        row = self.row(number, 1 if self.is_cut(number) else 0)
-        if number in self.lost or row is None:
-            why = self.lost.get(number, "no answer came back")
-            row = {"status": LOST, "solids": None, "rounds": None, "seconds": 0.0, "message": why}
-        return {"file": self.places[number].name, **row}
+    def last_key(self, number: int) -> Key | None:
+        """The name of the row that the table shows, that of the last pass that is for the drawing; none where it is lost."""
+        return None if number in self.lost else self.kept_key(number, 1 if self.is_cut(number) else 0)
+
+    def __iter__(self) -> Iterator[Row]:
+        for number, place in enumerate(self.places):
+            key = self.last_key(number)
+            yield {"file": place.name, **((self.rows.get(key) if key else None) or lost_row(self.why_lost(number)))}
+
+    def lost_ones(self) -> list[int]:
+        """The drawings whose rows are lost."""
+        return [number for number in range(len(self.places)) if self.last_key(number) is None]
+
+    def why_lost(self, number: int) -> str:
+        return self.lost.get(number, "no answer came back")
+
+
+def lost_row(why: str) -> Row:
+    return {"status": LOST, "solids": None, "rounds": None, "seconds": 0.0, "message": why}
 
 
 class Pass:
@@ -97,7 +106,7 @@ class Pass:
 
     def due(self) -> list[int]:
         """The drawings that have no row of this pass."""
-        return [number for number in self.table.numbers(self.at) if self.table.row(number, self.at) is None]
+        return [number for number in self.table.numbers(self.at) if self.table.kept_key(number, self.at) is None]
 
     def ask(self) -> None:
         """Asks in rounds, until all have a row, or a round brought none and the next one would be no other."""
@@ -130,7 +139,7 @@ class Pass:
         return self.due()
 
     def take(self, row: Row) -> None:
-        if 0 <= row["number"] < len(self.table.places) and self.table.row(row["number"], self.at) is None:
+        if 0 <= row["number"] < len(self.table.places) and self.table.kept_key(row["number"], self.at) is None:
             self.tally.count(row)
             self.table.take(row["number"], self.at, row)
 

@@ -23,7 +23,7 @@ from .controls import option
 from .listed import FORMS, places_of, written
 from .messages import Refused, many, on_stop, say, write_result
 from .passes import PASSES, Pass, Table
-from .rows import LOST, Rows
+from .rows import Rows
 
 NAME = "table"
 HELP = "ask recon about many drawings, and write a table"
@@ -85,10 +85,9 @@ def run(arguments: argparse.Namespace) -> int:
     except KeyboardInterrupt:
         say(f"draft table: stopped; the rows that are there are kept in {table.rows.state}, and the same command goes on from here")
         raise
-    rows = [table.last(number) for number in range(len(places))]
-    write_result(written(rows, arguments.form), arguments.output)
-    lost = [row for row in rows if row["status"] == LOST]
+    write_result(written(table, arguments.form), arguments.output)
+    lost = table.lost_ones()
     if lost:
-        first = f"{lost[0]['file']}: {lost[0]['message']}"
+        first = f"{places[lost[0]].name}: {table.why_lost(lost[0])}"
         say(f"draft table: {many(len(lost), 'row')} lost, the first of {first}; the same command asks again")
     return 1 if lost else 0

@@ -5,13 +5,16 @@ import pathlib
 import shutil
 import signal
 import subprocess
+import sys
 import tempfile
+import tracemalloc
 import unittest
 from unittest import mock
 
-from drafting import passes, program
+from drafting import passes, program, records
+from drafting.listed import Place, written
 from drafting.messages import Refused
-from drafting.rows import Rows
+from drafting.rows import Rows, key_of
 
 from .machines import needs_own_files
 from .support import EXAMPLES, TOOLS, draft, needs_command, needs_module, needs_program
@@ -177,12 +180,50 @@ class Progress(unittest.TestCase):
     def test_rows_that_are_kept(self) -> None:
         with tempfile.TemporaryDirectory() as room:
             state = pathlib.Path(room)
-            row = {"status": 0, "solids": 1, "rounds": 0, "seconds": 0.5, "message": "volume 1", "record": {}}
-            (state / "rows").write_bytes(b'no row\n{"key": "a"}\n' + json.dumps({"key": "b", **row}).encode() + b'\n{"key": "c", "st')
+            first, second, cut = key_of("first"), key_of("second"), key_of("cut")
+            line = json.dumps({"key": first.hex(), **ROW}).encode() + b"\n"
+            (state / "rows").write_bytes(b'no row\n{"key": "a"}\n' + line + b'{"key": "c", "st')
             rows = Rows(state)
-            self.assertEqual(rows.rows, {"b": row})
+            self.assertEqual((rows.get(first), rows.get(second), second in rows), (ROW, None, False))
             with self.assertRaises(Refused):
                 Rows(state)
-            rows.add("d", row)
+            rows.add(second, {**ROW, "solids": 2})
+            rows.add(cut, {**ROW, "status": program.CUT_NODES})
+            told = (ROW, {**ROW, "solids": 2}, {**ROW, "status": program.CUT_NODES})
+            self.assertEqual(tuple(map(rows.get, (first, second, cut))), told)
             rows.file.close()
-            self.assertEqual(Rows(state).rows, {"b": row, "d": row})
+            again = Rows(state)
+            self.assertEqual(tuple(map(again.get, (first, second, cut))), told)
+            self.assertEqual([again.is_cut(key) for key in (first, second, cut)], [False, False, True])
+
+    def test_of_a_row_its_place_alone_is_held(self) -> None:
+        """A row of 5 kB takes no more than 300 bytes of memory, when it is added and when it is found again; and so does the table of all."""
+        record = {**records.of_none("refused", "x"), "notes": ["word " * 1_000]}
+        with tempfile.TemporaryDirectory() as room:
+            places = [Place(f"{number}.dxf", f"/{number}.dxf") for number in range(1_000)]
+            tracemalloc.start()
+            self.addCleanup(tracemalloc.stop)
+            table = passes.Table(places, Rows(pathlib.Path(room)), pathlib.Path(sys.executable), [], [])
+            before = tracemalloc.get_traced_memory()[0]
+            for number in range(len(places)):
+                table.take(number, 0, {**ROW, "record": record})
+            self.assertLess(tracemalloc.get_traced_memory()[0] - before, 300 * len(places))
+            table.rows.file.close()
+            tracemalloc.reset_peak()
+            table.rows = Rows(pathlib.Path(room))
+            self.assertEqual(sum(map(len, written(table, "json"))) // len(places) // 1_000, 5)
+            self.assertEqual(table.lost_ones(), [])
+            self.assertLess(tracemalloc.get_traced_memory()[1] - before, 900 * len(places))
+
+    def test_a_table_as_it_is_written(self) -> None:
+        rows = [{"file": "a,b\udcff.dxf", **ROW}, {"file": "line\nend", **ROW, "solids": None, "message": ""}]
+        self.assertEqual(b"".join(written(rows, None)).decode(), (
+            "file          status solids rounds seconds message\n"
+            "a,b\\udcff.dxf 0      1      0      0.50    volume 1\n"
+            "line\\nend     0             0      0.50\n"))
+        self.assertEqual(b"".join(written(rows, "csv")), (
+            b'file,status,solids,rounds,seconds,message\n"a,b\xff.dxf",0,1,0,0.50,volume 1\n"line\nend",0,,0,0.50,\n'))
+        self.assertEqual([json.loads(line)["drawing"]["file"] for line in written(rows, "json")], ["a,b\udcff.dxf", "line\nend"])
+
+
+ROW = {"status": 0, "solids": 1, "rounds": 0, "seconds": 0.5, "message": "volume 1", "record": None}
