@@ -1,6 +1,4 @@
 """`python3 -m drafting` is `draft`, wherever this package is found."""
-import sys
+from .begin import main
 
-from .command import main
-
-sys.exit(main())
+main()

@@ -1,11 +1,13 @@
 """The commands' arguments, statuses and streams."""
 import pathlib
+import subprocess
+import sys
 import tempfile
 import unittest
 
 from drafting import command
 
-from .support import EXAMPLES, draft
+from .support import EXAMPLES, TOOLS, draft
 
 
 class Command(unittest.TestCase):
@@ -36,6 +38,14 @@ class Command(unittest.TestCase):
             ended = draft("page", pathlib.Path(folder) / "none.dxf", EXAMPLES / "bracket.txt", "--output", out)
             self.assertEqual((ended.status, ended.out), (1, ""))
             self.assertIn("none.dxf: No such file or directory", ended.said)
+
+    def test_a_part_of_python_that_is_not_there_is_named(self) -> None:
+        """As with python3-minimal alone, in which a module that is imported is none."""
+        for name in ("shlex", "json"):
+            block = f"import runpy, sys; sys.modules[{name!r}] = None; sys.argv[1:] = ['table', '--help']; runpy.run_path({str(TOOLS / 'draft')!r})"
+            ended = subprocess.run([sys.executable, "-c", block], capture_output=True, text=True)
+            told = f"draft: a part of Python isn't there, {name}: apt-get install python3\n"
+            self.assertEqual((ended.returncode, ended.stdout, ended.stderr), (1, "", told))
 
     def test_a_result_goes_into_a_file(self) -> None:
         with tempfile.TemporaryDirectory() as folder:
