@@ -150,7 +150,6 @@ def ask(path: str | None, arguments: argparse.Namespace, tell: Tell, command: tu
     documents.check_options(arguments, False)
     data = pathlib.Path(path).read_bytes()
     lines = lines_within(data)
-    decimals = decimals_in(lines, arguments)
     is_sheet = not arguments.as_is and (is_said_of_sheet(arguments) or not is_plain(lines))
     given = given_in(lines)
     if given and (is_sheet or arguments.as_is):
@@ -159,6 +158,7 @@ def ask(path: str | None, arguments: argparse.Namespace, tell: Tell, command: tu
         given = None
     if is_sheet and (asked := of_readable_sheet(path, lines, arguments, tell, command)) is not None:
         return asked
+    decimals = decimals_in(lines, arguments)
     words = [*command, *views_words(lines), *sections_words(command, arguments), *decimals_words(command, decimals), *words_of(arguments)]
     run = program.run(program.find(arguments.program), words, data, arguments.seconds)
     fault = faults.name_of(run.text.strip())

@@ -137,6 +137,8 @@ class Content:
     @functools.cached_property
     def comments(self) -> list[tuple[int, str]]:
         """The comments that stand before its entities, each with the line of its code."""
+        if 999 not in self.codes:
+            return []
         values = self.lines[1::2]
         ends = (at for at, code in enumerate(self.codes) if (code, values[at]) == (2, "ENTITIES") or code == 0 and values[at].upper() == "EOF")
         return [(2 * at + 1, values[at]) for at in range(next(ends, len(self.codes))) if self.codes[at] == 999]

@@ -8,7 +8,7 @@ from collections import Counter
 from collections.abc import Iterable, Sequence
 from typing import TYPE_CHECKING, Any, NamedTuple
 
-from . import curves, kinds
+from . import curves, kinds, tags
 from .drawing import UNITS, Place, entries_of, lines_of
 from .messages import Refused, many
 from .noted import Thing, Things
@@ -181,7 +181,7 @@ def opened(path: str) -> tuple[Any, str]:
     version = None if data.startswith(BINARY) else version_needed(data)
     if version is None:
         try:
-            return ezdxf.readfile(path), ""
+            return loaded(ezdxf, path, data), ""
         except OSError:
             raise
         except Exception:  # ezdxf's own errors, and whatever a broken file makes it stumble on
@@ -194,6 +194,14 @@ def opened(path: str) -> tuple[Any, str]:
         raise Unreadable(f"ezdxf can't read {pathlib.Path(path).name}: {told}") from None
     mended = len(auditor.errors) + len(auditor.fixes)
     return document, f"the file is broken: ezdxf mended {many(mended, 'fault')}" if mended and version is None else ""
+
+
+def loaded(ezdxf: Any, path: str, data: bytes) -> Any:
+    """The document of a file that has these bytes."""
+    try:
+        return tags.document_of(data)
+    except Exception:  # whatever isn't as it is mostly, for which ezdxf is asked
+        return ezdxf.readfile(path)
 
 
 def dxf_of(path: str) -> bytes:
