@@ -29,7 +29,7 @@ from collections.abc import Generator, Iterator
 from fractions import Fraction
 from typing import Any, NamedTuple, NoReturn
 
-from . import asking, messages, program, reading, records, sums
+from . import asking, handed, messages, program, reading, records, sums, warm
 from .given import given_in
 from .messages import Refused
 from .noted import Note
@@ -45,8 +45,7 @@ GROWN = 256 << 20
 SELDOM = 1_000_000
 # What a worker may take to end by itself, once the program has run out of its time.
 GRACE = 5.0
-# As GNU parallel tells a job the machine on which it runs.
-MACHINE = os.environ.get("PARALLEL_SSHLOGIN", ":")
+MACHINE = os.environ.get(handed.MACHINE, handed.HERE)
 CHANGED = "was changed meanwhile"
 
 
@@ -87,6 +86,7 @@ def text_of(words: list[str], drawings: list[Drawing]) -> bytes:
 def add_arguments(parser: argparse.ArgumentParser) -> None:
     parser.add_argument("--sums", action="store_true", help="tell the sums of what answers stand on, as JSON")
     parser.add_argument("--program", metavar="PATH", help="with --sums: the built program")
+    parser.add_argument("--door", metavar="NUMBER", type=int, help="take batches from who comes by this socket")
 
 
 def options() -> argparse.ArgumentParser:
@@ -269,12 +269,7 @@ def folder_of(drawing: Drawing, room: str) -> Iterator[str]:
 
 def rows_of(lines: list[bytes], room: str) -> Generator[Row, None, None]:
     arguments = options().parse_args(json.loads(lines[0])["words"])
-    if not arguments.as_is:
-        # What is begun here each worker has, and needn't begin for itself.
-        with contextlib.suppress(Refused):
-            reading.library()
-    # What is there by now needn't be looked at, and so copied, by a worker that collects what a drawing left.
-    gc.freeze()
+    begin(not arguments.as_is)
     with contextlib.closing(Workers(arguments)) as workers:
         for drawing in map(drawing_of, lines[1:-1]):
             with folder_of(drawing, room) as folder:
@@ -288,7 +283,7 @@ def rows_of(lines: list[bytes], room: str) -> Generator[Row, None, None]:
 
 def pass_over_stops() -> None:
     """Has signals to stop no effect any more: what is cleaned up then isn't disturbed."""
-    for one in (signal.SIGTERM, signal.SIGHUP):
+    for one in (signal.SIGTERM, signal.SIGHUP, signal.SIGIO):
         signal.signal(one, signal.SIG_IGN)
 
 
@@ -297,16 +292,29 @@ def stopped(number: int, _: object) -> None:
     sys.exit(128 + number)
 
 
+def begin(with_sheets: bool = True) -> None:
+    """Begins ezdxf, where sheets are to be read, which each fork has then, and needn't begin for itself; and what is there by now needn't be looked at, and so copied,
+    by a worker that collects what a drawing left."""
+    # Where ezdxf begins what calculates by several threads, these would be stopped and begun for each fork.
+    os.environ.setdefault("OPENBLAS_NUM_THREADS", "1")
+    if with_sheets:
+        with contextlib.suppress(Refused):
+            reading.library()
+    gc.freeze()
+
+
 def run(arguments: argparse.Namespace) -> int:
     if arguments.sums:
         print(json.dumps(sums.of(program.find(arguments.program))))
         return 0
+    if arguments.door is not None:
+        from .command import main  # which this is a command of
+        begin()
+        return warm.serve(arguments.door, lambda: main([NAME]), stopped)
     messages.on_stop(stopped)
     text = sys.stdin.buffer.read()
     if not text.endswith(b"\n\n"):
         raise Refused("the batch isn't whole")
-    # Where ezdxf begins what calculates by several threads, these would be stopped and begun for each fork.
-    os.environ.setdefault("OPENBLAS_NUM_THREADS", "1")
     room = os.path.join(tempfile.gettempdir(), f"draft_batch_{secrets.token_hex(8)}")
     # At the very end, when no signal has an effect any more, wherever one came before.
     atexit.register(shutil.rmtree, room, ignore_errors=True)

@@ -12,9 +12,9 @@ def is_installed() -> bool:
     return str(FOLDER) in [*site.getsitepackages(), site.getusersitepackages()]
 
 
-def words(*more: object) -> list[str]:
-    """The words of a command of `draft`. By -P nothing is imported from the folder in which it runs, where a drawing's json.py may lie."""
-    python = [sys.executable, "-P", "-m", "drafting", *map(str, more)]
+def words(*more: object, module: str = "drafting") -> list[str]:
+    """The words of a command of `draft`, or of a module of it. By -P nothing is imported from the folder in which it runs, where a drawing's json.py may lie."""
+    python = [sys.executable, "-P", "-m", module, *map(str, more)]
     if is_installed():
         return python
     folders = dict.fromkeys([str(FOLDER), *filter(None, os.environ.get("PYTHONPATH", "").split(os.pathsep))])

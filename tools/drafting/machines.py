@@ -18,9 +18,10 @@ from collections.abc import Callable, Iterable
 from typing import Any, NamedTuple
 
 from . import itself
+from .handed import HERE
 from .messages import Progress, Refused, many, say
+from .warm import Warm
 
-HERE = ":"
 # A machine is left out once so many of its last so many batches failed.
 FAILURES, LAST = 3, 5
 # How long machines may take to say what they have, as slow ones do whose logins wait for something, and a stopped GNU parallel to end; how it
@@ -171,10 +172,12 @@ class Carrier:
         self.complaint = self.error = ""
         self.trouble: Exception | None = None
         listed = write_machines(room, machines)
+        door = os.path.join(room, "door")
         words = ["--pipe", "--recend", r"\n\n", "-N1", "--line-buffer", "--jobs", jobs, "--joblog", log, "--sshloginfile", listed,
-                 "--halt", "never", "--termseq", STOPS, f"exec {shlex.join(itself.words('batch'))}"]
+                 "--halt", "never", "--termseq", STOPS, f"exec {shlex.join(itself.words(door, module='drafting.handed'))}"]
         command, variables = parallel(*words)
         with open(self.words.path, "wb") as said:
+            self.warm = Warm(door, said) if any(machine.name == HERE for machine in machines) else None
             self.process = subprocess.Popen(command, env=variables, stdin=subprocess.PIPE, stdout=subprocess.PIPE, stderr=said)
 
     def carry(self, batches: Iterable[bytes], take: Callable[[Row], None], tick: Callable[[], None]) -> None:
@@ -269,6 +272,8 @@ class Carrier:
             self.process.wait()
         assert self.process.stdout
         self.process.stdout.close()
+        if self.warm:
+            self.warm.end()
 
 
 class Lines:

@@ -1,0 +1,112 @@
+"""Batches that are handed to a process which has begun what they need: what they answer, and that nothing is left of one that is stopped."""
+import json
+import os
+import pathlib
+import signal
+import subprocess
+import tempfile
+import time
+import unittest
+from collections.abc import Callable
+
+from drafting import batch, itself
+from drafting.warm import Warm
+
+from .support import EXAMPLES
+
+PATIENCE = 600
+# A program that tells which process its batch is a fork of, and answers; and one that is still at it.
+TELLS = """#!/bin/sh
+parent() { ps -o ppid= -p "$1" | tr -d ' '; }
+parent "$(parent "$PPID")" > "$(dirname "$0")/forked"
+echo cut nodes 2000
+exit 3
+"""
+SLEEPS = """#!/bin/sh
+echo $$ > "$(dirname "$0")/asleep"
+exec sleep 1000
+"""
+
+
+class Handed(unittest.TestCase):
+    def setUp(self) -> None:
+        room = tempfile.TemporaryDirectory()
+        self.addCleanup(room.cleanup)
+        self.room = pathlib.Path(room.name)
+        (self.room / "temporary").mkdir()
+        self.door = str(self.room / "door")
+        said = open(self.room / "said", "wb")
+        self.addCleanup(said.close)
+        before = os.environ.get("TMPDIR")
+        os.environ["TMPDIR"] = str(self.room / "temporary")
+        self.warm = Warm(self.door, said)
+        os.environ.pop("TMPDIR") if before is None else os.environ.update(TMPDIR=before)
+        self.addCleanup(self.warm.end)
+
+    def job(self, text: str, door: str = "", machine: str = ":") -> "subprocess.Popen[bytes]":
+        """A job of a batch of one drawing, whose bytes come along, with a program of this text."""
+        program = self.room / "program"
+        program.write_text(text)
+        program.chmod(0o755)
+        file = EXAMPLES / "unit_cube.dxf"
+        drawing = batch.Drawing(7, str(file), file.stat().st_size, file.stat().st_mtime_ns, file.read_bytes())
+        job = subprocess.Popen(itself.words(door or self.door, module="drafting.handed"), stdin=subprocess.PIPE, stdout=subprocess.PIPE,
+                               stderr=subprocess.PIPE, env={**os.environ, "PARALLEL_SSHLOGIN": machine})
+        assert job.stdin
+        job.stdin.write(batch.text_of(["--program", str(program), "--memory", "0"], [drawing]))
+        job.stdin.close()
+        return job
+
+    def answered(self, job: "subprocess.Popen[bytes]") -> tuple[int, list[tuple[int, int]]]:
+        """The status of a job, and the number and status of each of its rows."""
+        assert job.stdout and job.stderr
+        rows = [json.loads(line) for line in job.stdout]
+        self.addCleanup(job.stderr.close)
+        job.stdout.close()
+        return job.wait(PATIENCE), [(row["number"], row["status"]) for row in rows]
+
+    def until(self, is_so: Callable[[], bool]) -> None:
+        end = time.monotonic() + PATIENCE
+        while not is_so():
+            self.assertLess(time.monotonic(), end)
+            time.sleep(0.05)
+
+    def asleep(self) -> int:
+        """The process that sleeps, once it does."""
+        self.until(lambda: (self.room / "asleep").exists() and (self.room / "asleep").read_text() != "")
+        return int((self.room / "asleep").read_text())
+
+    def forked(self) -> int:
+        return int((self.room / "forked").read_text())
+
+    def test_a_batch_is_a_fork_of_the_process_behind_the_door(self) -> None:
+        assert self.warm.process
+        for _ in range(2):
+            self.assertEqual(self.answered(self.job(TELLS)), (0, [(7, 3)]))
+            self.assertEqual(self.forked(), self.warm.process.pid)
+            (self.room / "forked").unlink()
+        self.assertEqual(list((self.room / "temporary").iterdir()), [])
+
+    def test_where_nobody_is_there_a_job_answers_by_itself(self) -> None:
+        assert self.warm.process
+        for door, machine in ((str(self.room / "none"), ":"), (self.door, "other")):
+            self.assertEqual(self.answered(self.job(TELLS, door, machine)), (0, [(7, 3)]))
+            self.assertNotEqual(self.forked(), self.warm.process.pid)
+        self.warm.end()
+        self.assertEqual(self.answered(self.job(TELLS)), (0, [(7, 3)]))
+
+    def test_a_job_that_is_stopped_stops_its_batch(self) -> None:
+        for how, status in ((signal.SIGTERM, 128 + signal.SIGIO), (signal.SIGKILL, -signal.SIGKILL)):
+            with self.subTest(how):
+                (self.room / "asleep").unlink(missing_ok=True)
+                job = self.job(SLEEPS)
+                process = self.asleep()
+                self.assertEqual(len(list((self.room / "temporary").iterdir())), 1)
+                job.send_signal(how)
+                self.assertEqual(self.answered(job), (status, []))
+                self.until(lambda: not pathlib.Path(f"/proc/{process}").exists())
+                self.until(lambda: not list((self.room / "temporary").iterdir()))
+
+    def test_a_batch_that_is_not_whole(self) -> None:
+        job = subprocess.Popen(itself.words(self.door, module="drafting.handed"), stdin=subprocess.DEVNULL, stdout=subprocess.PIPE, stderr=subprocess.PIPE)
+        self.assertEqual((*job.communicate(timeout=PATIENCE), job.returncode), (b"", b"draft batch: the batch isn't whole\n", 1))
