@@ -85,7 +85,7 @@ def text_of(words: list[str], drawings: list[Drawing]) -> bytes:
 
 def add_arguments(parser: argparse.ArgumentParser) -> None:
     parser.add_argument("--sums", action="store_true", help="tell the sums of what answers stand on, as JSON")
-    parser.add_argument("--program", metavar="PATH", help="with --sums: the built program")
+    parser.add_argument("--program", metavar="PATH", help="with --sums or --door: the built program")
     parser.add_argument("--door", metavar="NUMBER", type=int, help="take batches from who comes by this socket")
 
 
@@ -310,6 +310,8 @@ def run(arguments: argparse.Namespace) -> int:
     if arguments.door is not None:
         from .command import main  # which this is a command of
         begin()
+        with contextlib.suppress(OSError):
+            records.program_record(program.find(arguments.program))
         return warm.serve(arguments.door, lambda: main([NAME]), stopped)
     messages.on_stop(stopped)
     text = sys.stdin.buffer.read()

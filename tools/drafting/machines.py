@@ -165,7 +165,7 @@ def lacks(own: dict[str, str], told: list[str], silence: str) -> str:
 class Carrier:
     """One run of GNU parallel over batches, with its log of jobs and a folder for what else it needs."""
 
-    def __init__(self, machines: list[Machine], jobs: str, log: pathlib.Path, room: str) -> None:
+    def __init__(self, machines: list[Machine], jobs: str, program: pathlib.Path, log: pathlib.Path, room: str) -> None:
         self.machines, self.room = machines, room
         self.log, self.words = Followed(log), Followed(pathlib.Path(room, "said"))
         self.last: dict[str, collections.deque[bool]] = {}
@@ -177,7 +177,7 @@ class Carrier:
                  "--halt", "never", "--termseq", STOPS, f"exec {shlex.join(itself.words(door, module='drafting.handed'))}"]
         command, variables = parallel(*words)
         with open(self.words.path, "wb") as said:
-            self.warm = Warm(door, said) if any(machine.name == HERE for machine in machines) else None
+            self.warm = Warm(door, program, said) if any(machine.name == HERE for machine in machines) else None
             self.process = subprocess.Popen(command, env=variables, stdin=subprocess.PIPE, stdout=subprocess.PIPE, stderr=said)
 
     def carry(self, batches: Iterable[bytes], take: Callable[[Row], None], tick: Callable[[], None]) -> None:

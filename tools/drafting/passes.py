@@ -135,7 +135,7 @@ class Pass:
         is_sent = any(machine.name != HERE for machine in machines)
         with tempfile.TemporaryDirectory(prefix="draft_table_") as room:
             log = self.table.rows.place(f"joblog_{self.at + 1}_{number + 1}", room)
-            Carrier(machines, self.jobs, log, room).carry(self.batches(due, size, is_sent), self.take, self.tally.tick)
+            Carrier(machines, self.jobs, self.table.program, log, room).carry(self.batches(due, size, is_sent), self.take, self.tally.tick)
         return self.due()
 
     def take(self, row: Row) -> None:

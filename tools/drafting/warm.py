@@ -4,6 +4,7 @@ import atexit
 import contextlib
 import fcntl
 import os
+import pathlib
 import select
 import signal
 import socket
@@ -19,14 +20,14 @@ WAITING, ENDED = 512, 20
 
 
 class Warm:
-    """Such a process, until it is ended; none where there can be no door, as in a folder with a long name."""
+    """Such a process, until it is ended, for batches of a program; none where there can be no door, as in a folder with a long name."""
 
-    def __init__(self, place: str, said: IO[bytes]) -> None:
+    def __init__(self, place: str, program: pathlib.Path, said: IO[bytes]) -> None:
         self.process: subprocess.Popen[bytes] | None = None
         with socket.socket(socket.AF_UNIX) as door, contextlib.suppress(OSError):
             door.bind(place)
             door.listen(WAITING)
-            words = itself.words("batch", "--door", door.fileno())
+            words = itself.words("batch", "--door", door.fileno(), "--program", program)
             self.process = subprocess.Popen(
                 words, stdin=subprocess.PIPE, stdout=subprocess.DEVNULL, stderr=said, pass_fds=[door.fileno()],
                 start_new_session=True)

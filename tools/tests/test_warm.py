@@ -2,6 +2,7 @@
 import json
 import os
 import pathlib
+import shutil
 import signal
 import subprocess
 import tempfile
@@ -12,13 +13,20 @@ from collections.abc import Callable
 from drafting import batch, itself
 from drafting.warm import Warm
 
-from .support import EXAMPLES
+from .support import EXAMPLES, needs_command
+from .tables import made
 
 PATIENCE = 600
 # A program that tells which process its batch is a fork of, and answers; and one that is still at it.
 TELLS = """#!/bin/sh
 parent() { ps -o ppid= -p "$1" | tr -d ' '; }
 parent "$(parent "$PPID")" > "$(dirname "$0")/forked"
+echo cut nodes 2000
+exit 3
+"""
+# One that tells how the process of its batch was begun.
+NAMES = """#!/bin/sh
+echo "$(tr '\\0' ' ' < "/proc/$(ps -o ppid= -p "$PPID" | tr -d ' ')/cmdline")" >> "$(dirname "$0")/begun"
 echo cut nodes 2000
 exit 3
 """
@@ -39,7 +47,7 @@ class Handed(unittest.TestCase):
         self.addCleanup(said.close)
         before = os.environ.get("TMPDIR")
         os.environ["TMPDIR"] = str(self.room / "temporary")
-        self.warm = Warm(self.door, said)
+        self.warm = Warm(self.door, pathlib.Path("/bin/true"), said)
         os.environ.pop("TMPDIR") if before is None else os.environ.update(TMPDIR=before)
         self.addCleanup(self.warm.end)
 
@@ -110,3 +118,20 @@ class Handed(unittest.TestCase):
     def test_a_batch_that_is_not_whole(self) -> None:
         job = subprocess.Popen(itself.words(self.door, module="drafting.handed"), stdin=subprocess.DEVNULL, stdout=subprocess.PIPE, stderr=subprocess.PIPE)
         self.assertEqual((*job.communicate(timeout=PATIENCE), job.returncode), (b"", b"draft batch: the batch isn't whole\n", 1))
+
+
+@needs_command("parallel", "parallel")
+class InTables(unittest.TestCase):
+    def test_each_batch_of_a_table_here_is_such_a_fork(self) -> None:
+        with tempfile.TemporaryDirectory() as room:
+            program, folder = pathlib.Path(room, "program"), pathlib.Path(room, "drawings")
+            program.write_text(NAMES)
+            program.chmod(0o755)
+            folder.mkdir()
+            for number in range(16):
+                shutil.copy(EXAMPLES / "unit_cube.dxf", folder / f"{number}.dxf")
+            ended = made(folder, "--program", program, "--jobs", 2)
+            self.assertEqual((ended.status, {row["status"] for row in ended.rows.values()}), (0, {"3"}), ended.said)
+            begun = (pathlib.Path(room) / "begun").read_text().splitlines()
+        # A drawing is asked about in both passes.
+        self.assertEqual((len(begun), sum(" batch --door " in words for words in begun)), (32, 32))
