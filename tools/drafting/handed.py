@@ -20,20 +20,30 @@ def handed(door: str) -> socket.socket | None:
     return channel
 
 
+def status_of(channel: socket.socket) -> int:
+    """The status with which a batch ends. A stop is handed on by an end of what comes from here, as it would be if this process were killed."""
+    def stop(*_: object) -> None:
+        try:
+            channel.shutdown(socket.SHUT_WR)
+        except OSError:  # it has ended by now
+            pass
+
+    for one in (signal.SIGTERM, signal.SIGHUP):
+        signal.signal(one, stop)
+    try:
+        told = channel.recv(1)
+    except ConnectionError:
+        told = b""
+    return told[0] if told else 1
+
+
 def main() -> None:
     channel = handed(sys.argv[1]) if os.environ.get(MACHINE, HERE) == HERE else None
     if channel is None:
         from . import itself
         words = itself.words("batch")
         os.execvp(words[0], words)
-    # A stop is handed on by an end of what comes from here, as it would be where this process was killed.
-    for one in (signal.SIGTERM, signal.SIGHUP):
-        signal.signal(one, lambda *_: channel.shutdown(socket.SHUT_WR))
-    try:
-        told = channel.recv(1)
-    except ConnectionError:
-        told = b""
-    sys.exit(told[0] if told else 1)
+    sys.exit(status_of(channel))
 
 
 if __name__ == "__main__":
