@@ -30,6 +30,7 @@ KILL) kill -KILL $PPID;;
 ABORT) kill -ABRT $$;;
 SLEEP) exec sleep 1000;;
 MEMORY) exit 7;;
+WAIT) while [ -e {folder}.wait ]; do sleep 0.1; done;;
 TOUCH) touch -d @1 {folder}/TOUCH.dxf;;
 CUT) case "$*" in *2000*) echo cut nodes 2000; exit 3;; esac;;
 esac
@@ -55,6 +56,16 @@ class Tables(unittest.TestCase):
         (self.folder / "no drawing; 'at all'.dxf").write_text("hello\n")
         (self.folder / "cut.dxf").write_bytes((EXAMPLES / "clevis.dxf").read_bytes()[:900])
 
+    def spited(self) -> pathlib.Path:
+        """The program that does what a drawing says."""
+        path = self.room / "spited"
+        path.write_text(SPITED.format(program=program.find(), folder=f"'{self.folder}'"))
+        path.chmod(0o755)
+        return path
+
+    def spite(self, name: str) -> None:
+        (self.folder / f"{name}.dxf").write_text(f"999\n{name}\n{(EXAMPLES / 'unit_cube.dxf').read_text()}")
+
     def test_each_drawing_has_a_row(self) -> None:
         self.fill()
         before = kept(self.folder)
@@ -76,18 +87,22 @@ class Tables(unittest.TestCase):
 
     def test_a_table_that_is_stopped_goes_on(self) -> None:
         self.fill("bracket", "clevis", "unit_cube", "pierced_plate", "fractions")
+        self.spite("WAIT")
+        spited, waits = self.spited(), self.folder.with_name(f"{self.folder.name}.wait")
         for how in (signal.SIGKILL, signal.SIGINT, signal.SIGTERM):
             shutil.rmtree(self.state, ignore_errors=True)
-            running = begun(self.folder)
+            waits.touch()
+            running = begun(self.folder, "--program", spited)
             until(lambda: count(self.state) >= 3, running)
-            other = made(self.folder)
+            other = made(self.folder, "--program", spited)
             self.assertIn("another table is being made", other.said)
             os.killpg(running.pid, how)
             running.communicate()
+            waits.unlink()
             first = (self.state / "rows").read_bytes()
             with open(self.state / "rows", "ab") as rows:
                 rows.write(b'{"key": "cut of')
-            ended = made(self.folder)
+            ended = made(self.folder, "--program", spited)
             self.assertEqual(ended.status, 0, ended.said)
             self.assertEqual(set(ended.rows), {str(file.relative_to(self.folder)) for file in kept(self.folder)})
             self.assertTrue((self.state / "rows").read_bytes().startswith(first))
@@ -112,12 +127,10 @@ class Tables(unittest.TestCase):
         self.assertEqual((text.returncode, text.stderr), (0, b""))
 
     def test_a_drawing_costs_itself_alone(self) -> None:
-        spited = self.room / "spited"
+        spited = self.spited()
         self.folder.mkdir()
-        spited.write_text(SPITED.format(program=program.find(), folder=f"'{self.folder}'"))
-        spited.chmod(0o755)
         for name in ("KILL", "ABORT", "SLEEP", "MEMORY", "TOUCH", "CUT", "NOTHING"):
-            (self.folder / f"{name}.dxf").write_text(f"999\n{name}\n{(EXAMPLES / 'unit_cube.dxf').read_text()}")
+            self.spite(name)
         ended = made(self.folder, "--program", spited, "--seconds", 10, "--jobs", 8)
         self.assertEqual({name: (row["status"], row["message"].split(" solve")[0]) for name, row in ended.rows.items()}, {
             "KILL.dxf": ("failed", "reading it was ended by SIGKILL"), "ABORT.dxf": ("failed", "recon was ended by SIGABRT"),
