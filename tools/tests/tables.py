@@ -3,6 +3,7 @@ import csv
 import io
 import os
 import pathlib
+import signal
 import subprocess
 import time
 from collections.abc import Callable
@@ -40,8 +41,13 @@ def made(*words: object, data: bytes = b"", variables: dict[str, str] | None = N
 
 
 def begun(*words: object, variables: dict[str, str] | None = None) -> "subprocess.Popen[bytes]":
+    """A table that is being made, which an interrupt stops, as a shell's jobs in the background aren't."""
     return subprocess.Popen(words_of(*words), stdin=subprocess.DEVNULL, stdout=subprocess.PIPE, stderr=subprocess.PIPE,
-                            env=variables or dict(os.environ), start_new_session=True)
+                            env=variables or dict(os.environ), start_new_session=True, preexec_fn=heed_interrupts)
+
+
+def heed_interrupts() -> None:
+    signal.signal(signal.SIGINT, signal.SIG_DFL)
 
 
 def rows_of(out: bytes) -> dict[str, Row]:
