@@ -293,8 +293,8 @@ def stopped(number: int, _: object) -> None:
 
 
 def begin(with_sheets: bool = True) -> None:
-    """Begins ezdxf, where sheets are to be read, which each fork has then, and needn't begin for itself; and what is there by now needn't be looked at, and so copied,
-    by a worker that collects what a drawing left."""
+    """Begins ezdxf, where sheets are to be read, which each fork has then, and needn't begin for itself; and what is there by now needn't be
+    looked at, and so copied, by a worker that collects what a drawing left."""
     # Where ezdxf begins what calculates by several threads, these would be stopped and begun for each fork.
     os.environ.setdefault("OPENBLAS_NUM_THREADS", "1")
     if with_sheets:

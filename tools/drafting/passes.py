@@ -10,8 +10,9 @@ from typing import NamedTuple
 
 from . import sums
 from .batch import CHANGED, Drawing, text_of
+from .handed import HERE
 from .listed import Place
-from .machines import HERE, Carrier, Machine, fit, told_name
+from .machines import Carrier, Machine, fit, told_name
 from .messages import Progress, many, say
 from .reading import MOST_BYTES
 from .rows import FAILED, LOST, REFUSED, Key, Row, Rows, key_of

@@ -18,7 +18,7 @@ import shutil
 import signal
 import sys
 
-from . import batch, files, machines, program, sheet
+from . import batch, files, handed, machines, program, sheet
 from .controls import option
 from .listed import FORMS, places_of, written
 from .messages import Refused, many, on_stop, say, write_result
@@ -72,7 +72,7 @@ def run(arguments: argparse.Namespace) -> int:
         raise Refused("limits that aren't taken: up to 86,400 seconds, 64 MiB of memory or more")
     path = program.find(arguments.program)
     named = machines.machines_of(arguments.sshlogin)
-    if arguments.pairs and any(machine.name != machines.HERE for machine in named):
+    if arguments.pairs and any(machine.name != handed.HERE for machine in named):
         raise Refused(f"{option('pairs')} goes with this machine alone: what is sent to another one is a file a drawing")
     places = places_of(arguments.places, sys.stdin.buffer if "-" in arguments.places else None, arguments.null)
     places = [place for place in places if not (arguments.pairs and files.is_visible_one(pathlib.Path(place.path)))]

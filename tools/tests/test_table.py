@@ -14,7 +14,7 @@ from unittest import mock
 from drafting import passes, program, records
 from drafting.listed import Place, written
 from drafting.messages import Refused
-from drafting.rows import Rows, key_of
+from drafting.rows import Row, Rows, key_of
 
 from .machines import needs_own_files
 from .support import EXAMPLES, TOOLS, draft, needs_command, needs_module, needs_program
@@ -229,7 +229,7 @@ class Progress(unittest.TestCase):
             self.assertLess(tracemalloc.get_traced_memory()[1] - before, 900 * len(places))
 
     def test_a_table_as_it_is_written(self) -> None:
-        rows = [{"file": "a,b\udcff.dxf", **ROW}, {"file": "line\nend", **ROW, "solids": None, "message": ""}]
+        rows: list[Row] = [{"file": "a,b\udcff.dxf", **ROW}, {"file": "line\nend", **ROW, "solids": None, "message": ""}]
         self.assertEqual(b"".join(written(rows, None)).decode(), (
             "file          status solids rounds seconds message\n"
             "a,b\\udcff.dxf 0      1      0      0.50    volume 1\n"
@@ -239,4 +239,4 @@ class Progress(unittest.TestCase):
         self.assertEqual([json.loads(line)["drawing"]["file"] for line in written(rows, "json")], ["a,b\udcff.dxf", "line\nend"])
 
 
-ROW = {"status": 0, "solids": 1, "rounds": 0, "seconds": 0.5, "message": "volume 1", "record": None}
+ROW: Row = {"status": 0, "solids": 1, "rounds": 0, "seconds": 0.5, "message": "volume 1", "record": None}
