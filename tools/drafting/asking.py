@@ -9,6 +9,7 @@ from typing import NamedTuple
 from . import answering, documents, faults, files, noted, program, sheet, trials
 from .answering import Readings
 from .answers import Answer, answer_of, turned_back
+from .as_written import Unreadable
 from .controls import option
 from .drawing import Origin, decimals_of, entries_of, lines_of, lines_within, missing_in, origin_of, passed_over, views_of
 from .given import given_in
@@ -18,7 +19,6 @@ from .noted import Note, Tell
 from .pairs import TwoReadings
 from .panels import Sheet, sheet_of
 from .paper import Paper
-from .reading import Unreadable
 from .section_layers import layers_in
 
 # What recon passes over and a sheet is compared with: its sizes, and which views are sections.
