@@ -295,6 +295,8 @@ def of_sheet(path: str | None, arguments: argparse.Namespace, tell: Tell, comman
     """Asks the program about what a sheet is drawn as; of a sheet with rounds about the first reading of which a solid is kept."""
     try:
         drawn = drawn_of(path, arguments, tell)
+        # What is asked of the drawing later on reads its sections too.
+        is_new, arguments.sections = drawn.has_sections and not arguments.sections, drawn.has_sections or arguments.sections
         rounds = answering.readings(drawn, ask_all(arguments), arguments) if given_in(lines_within(drawn.text.encode())) else None
         if drawn.refused and not (rounds and rounds.kept):
             raise drawn.refused
@@ -308,9 +310,7 @@ def of_sheet(path: str | None, arguments: argparse.Namespace, tell: Tell, comman
         drawn = chosen.drawn
     for note in drawn.notes:
         tell(note)
-    if drawn.has_sections and not arguments.sections:
-        # What is asked of the drawing later on reads them too.
-        arguments.sections = True
+    if is_new:
         tell(noted.found("sections of the sheet, which are read as its views are"))
     data = drawn.text.encode()
     lines = lines_within(data)

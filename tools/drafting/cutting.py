@@ -10,13 +10,16 @@ from collections import defaultdict
 from collections.abc import Container, Iterator, Sequence
 from typing import Any, NamedTuple
 
+from . import curves
 from .drawing import Place
-from .reading import TEXTS, Arrow, Box, Edge, Sheet, Source, box_of
+from .reading import HATCHES, TEXTS, Arrow, Box, Edge, Sheet, Source, box_of
 
 LETTER = re.compile(r"[^\W\d_]\d?['′]?")
 # How far from its head a letter may stand, how long a stroke of it is at most, in heights of the letter; and how far from a head its
 # strokes may begin, as a part of its size.
 NEAR, LONG, TOUCHING = 3, 8, 0.2
+# How far from a quarter of a circle an arc of a hatch may end, in degrees.
+WHOLE = 0.1
 
 
 class Word(NamedTuple):
@@ -75,12 +78,45 @@ def words_of(sheet: Sheet) -> list[Word]:
 
 
 def corners_of(path: Any) -> list[Place]:
-    """The corners of a side of a hatch; none where it is bent."""
+    """The corners of a side of a hatch, whole quarters of circles as their sharp corners; none where it is bent otherwise."""
+    found: list[Place] = []
+    for stretch in stretches_of(path):
+        if stretch is None:
+            return []
+        found += stretch
+    return found
+
+
+def stretches_of(path: Any) -> Iterator[list[Place] | None]:
+    """The corners of each stretch of a side of a hatch but its last one; None of one that is bent otherwise."""
+    from ezdxf.math import bulge_to_arc
     if hasattr(path, "vertices"):
-        return [(it[0], it[1]) for it in path.vertices] if not any(len(it) > 2 and it[2] for it in path.vertices) else []
-    if any(type(edge).__name__ != "LineEdge" for edge in path.edges):
-        return []
-    return [(edge.start[0], edge.start[1]) for edge in path.edges]
+        its = [(it[0], it[1], it[2] if len(it) > 2 else 0) for it in path.vertices]
+        for (x, y, bulge), (right, up, _) in zip(its, [*its[1:], *its[:1]]):
+            if not bulge:
+                yield [(x, y)]
+                continue
+            centre, start, end, radius = bulge_to_arc((x, y), (right, up), bulge)
+            corners = squared_arc((centre.x, centre.y), radius, math.degrees(start), math.degrees(end))
+            yield corners and [(x, y), *(corners if bulge > 0 else corners[::-1])]
+    for edge in () if hasattr(path, "vertices") else path.edges:
+        kind = type(edge).__name__
+        if kind == "LineEdge":
+            yield [(edge.start[0], edge.start[1])]
+        elif kind == "ArcEdge" and (corners := squared_arc((edge.center[0], edge.center[1]), edge.radius, edge.start_angle, edge.end_angle)):
+            start = curves.at((edge.center[0], edge.center[1]), edge.radius, edge.start_angle if edge.ccw else edge.end_angle)
+            yield [start, *(corners if edge.ccw else corners[::-1])]
+        else:
+            yield None
+
+
+def squared_arc(centre: Place, radius: float, start: float, end: float) -> list[Place] | None:
+    """The sharp corners of a part of a circle, counterclockwise from an angle to another one; None where these aren't whole quarters."""
+    first, last = (round(it / 90) for it in (start, end))
+    if max(abs(start - 90 * first), abs(end - 90 * last)) > WHOLE:
+        return None
+    last += 4 * (last <= first)
+    return [(centre[0] + radius * (1 if at % 4 in (0, 3) else -1), centre[1] + radius * (1 if at % 4 in (0, 1) else -1)) for at in range(first, last)]
 
 
 def is_head(hatch: Any) -> bool:
@@ -111,7 +147,7 @@ def heads_of(sheet: Sheet, edges: Sequence[Edge], others: Sequence[Arrow], toler
             (a, b, *_), (c, d, *_) = kept.entity.vertices[0], kept.entity.vertices[-1]
             tail = kept.entity.vertices[1]
             yield Head((min(a, c), min(b, d), max(a, c), max(b, d)), kept.source, ((tail[0], tail[1]), (a, b)))
-        elif kept.source.kind == "HATCH" and is_head(kept.entity) and (box := box_of(kept.entity)):
+        elif kept.source.kind in HATCHES and is_head(kept.entity) and (box := box_of(kept.entity)):
             yield Head(box, kept.source, points_of(corners_of(list(kept.entity.paths)[0])))
     yield from open_heads(edges, tolerance)
 

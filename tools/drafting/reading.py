@@ -27,8 +27,9 @@ CURVES = (
     "POLYFACE", "PLANESURFACE", "EXTRUDEDSURFACE", "LOFTEDSURFACE", "REVOLVEDSURFACE", "SWEPTSURFACE",
 )
 TEXTS = ("TEXT", "MTEXT", "ATTRIB", "ATTDEF")
-# What gives no edge, and tells of the views: their sizes, and which of them are sections.
-KEPT = (*TEXTS, "DIMENSION", "HATCH", "LEADER")
+# What is hatched or filled; and what gives no edge, and tells of the views: their sizes, and which of them are sections.
+HATCHES = ("HATCH", "MPOLYGON")
+KEPT = (*TEXTS, "DIMENSION", *HATCHES, "LEADER")
 SCALE = re.compile(r"(?<![\d:.])(\d{1,4}(?:\.\d{1,3})?) ?: ?(\d{1,4}(?:\.\d{1,3})?)(?![\d:])")
 
 Box = tuple[float, float, float, float]

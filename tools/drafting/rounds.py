@@ -160,6 +160,11 @@ def box_of(places: Sequence[Place]) -> Box:
     return min(xs), min(ys), max(xs), max(ys)
 
 
+def arc_box(arc: Arc) -> Box:
+    turns = [arc.start, arc.start + arc.sweep, *(at for at in range(0, 720, 90) if arc.start <= at <= arc.start + arc.sweep)]
+    return box_of([arc.at(it) for it in turns])
+
+
 # ---- the circles
 
 def rounds_of(arcs: Sequence[Arc], tolerance: float) -> list[Round]:

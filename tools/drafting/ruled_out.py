@@ -1,10 +1,16 @@
-"""Which section rules all solids out, where some have the views alone: drawn otherwise than it is meant, as no reading of a sheet by itself sees."""
+"""Which section rules all solids out, where some have the views alone: drawn otherwise than it is meant, as no reading of a sheet by itself sees. And
+where no solid has three views, which of them may be a section that nothing tells: it has no hidden line, and some solid has the other two and it
+as a section.
+"""
 import argparse
-from collections.abc import Collection
+import itertools
+from collections.abc import Collection, Iterator, Mapping
+from fractions import Fraction
 
 from . import asking, program, trials
 from .answers import WHOLE
-from .drawing import pairs_of
+from .drawing import VIEWS, pairs_of, strokes_in, views_of
+from .panels import FRAMES
 from .section_layers import Section, layers_in, sections_of
 from .trials import Outcome
 
@@ -13,21 +19,29 @@ CAUSES = ("A rib that is drawn uncut, arrows that point the wrong way, a section
           "`draft why` tries what it may be.")
 # A layer that is passed over.
 NOWHERE = "LEFT_OUT"
+# How many planes are tried of views that may be sections.
+MOST_PLANES = 40
 
 
-def without(lines: list[str], layers: Collection[str]) -> bytes:
-    """A drawing with some layers left out."""
+def renamed(lines: list[str], layers: Mapping[str, str]) -> list[str]:
+    """A drawing with some layers called otherwise."""
     told = list(lines)
     for number, code, value in pairs_of(lines):
         if code == 8 and value.upper() in layers:
-            told[number] = NOWHERE
-    return ("\n".join(told) + "\n").encode()
+            told[number] = layers[value.upper()]
+    return told
+
+
+def outcome_of(asked: asking.Asked, arguments: argparse.Namespace, layers: Mapping[str, str]) -> Outcome:
+    """What the program says of a drawing with some layers called otherwise."""
+    lines = renamed(asked.lines, layers)
+    words = ["solve", *asking.views_words(lines), program.SECTIONS, *asking.decimals_words(("solve",), asked.decimals)]
+    return trials.outcome(program.find(arguments.program), words, ("\n".join(lines) + "\n").encode())
 
 
 def outcome(asked: asking.Asked, arguments: argparse.Namespace, layers: Collection[str]) -> Outcome:
     """What the program says of a drawing without some layers."""
-    words = ["solve", *asking.views_words(asked.lines), program.SECTIONS, *asking.decimals_words(("solve",), asked.decimals)]
-    return trials.outcome(program.find(arguments.program), words, without(asked.lines, layers))
+    return outcome_of(asked, arguments, dict.fromkeys(layers, NOWHERE))
 
 
 def planes_in(asked: asking.Asked) -> list[set[str]]:
@@ -51,3 +65,43 @@ def told(asked: asking.Asked, arguments: argparse.Namespace) -> list[str]:
         one, names = outcome(asked, arguments, layers), sorted(layers & set(layers_in(asked.lines)))
         rows += [f"Without {' and '.join(names)} there {'is' if one.count == 1 else 'are'} {one.words}."] if one.count else []
     return [*rows, CAUSES]
+
+
+# ---- a section in a view's place
+
+def planes_of(asked: asking.Asked) -> Iterator[tuple[str, Section]]:
+    """The main views without hidden lines, each with the sections that it may be: of a plane within each gap of the other views' coordinates."""
+    strokes = strokes_in(asked.lines, asked.decimals)
+    for view in VIEWS:
+        axis, found = FRAMES[view].sight, set[int]()
+        for other in VIEWS if not any(dashed for dashed, *_ in strokes[view]) else ():
+            for way, shown, is_back in ((0, FRAMES[other].right, FRAMES[other].right_back), (1, FRAMES[other].up, FRAMES[other].up_back)):
+                its = {end[way] for _, *ends in strokes[other] for end in ends} if shown == axis else set()
+                found |= {max(its) - at if is_back else at - min(its) for at in its}
+        for low, high in itertools.pairwise(sorted(found)):
+            at = (low + high) // 2 if high - low > 1 or not FRAMES[view].sight_back else high
+            if 0 < at < max(found):
+                yield view, Section(view, Fraction(at))
+
+
+def place_told(asked: asking.Asked, view: str, section: Section) -> str:
+    """A view and a plane of the drawing as the sheet has them."""
+    axis = FRAMES[view].sight
+    name = asked.paper.name(view) if asked.paper else view
+    ats = [end[0] for _, *ends in strokes_in(asked.lines, asked.decimals)["FRONT"] for end in ends] if axis == 0 and asked.origin.mirrored else []
+    at = max(ats) - min(ats) - section.at if ats else section.at
+    return f"{name} may be a section, behind {'xyz'[axis]} = {asked.length(int(at))}"
+
+
+def may_be_sections(asked: asking.Asked, arguments: argparse.Namespace) -> list[str]:
+    """What is said where no solid has three views: which of them may be a section that no hatch, label or line tells, and of which plane."""
+    head = WHOLE.fullmatch(asked.run.text.partition("\n")[0])
+    if not head or int(head[1]) or asked.missing or asked.page or layers_in(asked.lines) or set(views_of(asked.lines)) != set(VIEWS):
+        return []
+    told: dict[str, str] = {}
+    for view, section in itertools.islice(planes_of(asked), MOST_PLANES):
+        if view not in told:
+            its = outcome_of(asked, arguments, {view: section.layer(asked.decimals, with_point=False)})
+            if its.count:
+                told[view] = f"{place_told(asked, view, section)}: with the other two views so it has {its.words}. A section is no view: draw it uncut."
+    return list(told.values())

@@ -5,6 +5,8 @@ hidden ones, and the outline of its hatch (`areas.py`). Where a section shows th
 Its coordinates have to be the part's own: else it is drawn at another scale, turned, unfolded, or of another part. A plane upon a face
 is refused, since what it cuts isn't told. All that can't be read is refused by what it is, as a half, an offset or a broken-out section.
 
+Of a sheet with rounds sections are read once all is squared off, where they show a solid and that squared off alike (`section_rounds.py`).
+
 A rib that is drawn uncut, arrows that point the wrong way and a section that stands upside down are seen by no more than that no solid
 has the layers too, which `solve` says.
 """
@@ -13,21 +15,23 @@ from collections.abc import Callable, Iterator, Mapping, Sequence
 from fractions import Fraction
 from typing import NamedTuple
 
-from . import noted
+from . import noted, section_rounds
 from .advice import Advisable, GetsFurther, InTheWay
 from .areas import Hatch, Segment, area_of, distinct
 from .controls import option
 from .cutting import Mark, Word, corners_of, is_head, words_of
-from .drawing import Stroke, number, pairs
+from .drawing import Place, Stroke, number, pairs
 from .groups import Group, united
 from .messages import Refused, many
 from .noted import Tell
 from .panels import FRAMES
 from .placing import Placed
 from .planes import Plane, plane_of
-from .reading import SCALE, Edge, Kept, Sheet, Source
+from .reading import HATCHES, SCALE, Edge, Kept, Sheet, Source
+from .rounds import OF_ONE
 from .section_layers import Section
-from .sections import Cut, hatch_lines, holding, is_dot, sides_of
+from .section_rounds import Rounds
+from .sections import Cut, hatch_lines, holding, is_dot, lies_across, sides_of
 from .straight import MOST_DECIMALS, Measure, Run
 
 # What a left view is called where it stands for SIDE, and all views are drawn in a mirror.
@@ -51,7 +55,8 @@ class NotRead(Advisable):
 
 
 class CutView(NamedTuple):
-    """A section of a sheet: its letter and label, its group, the plane, its solid lines and the outline of its area, as drawn."""
+    """A section of a sheet: its letter and label, its group, the plane, its solid lines and the outline of its area, as drawn; and how it was turned
+    and then moved to be a view of the part."""
 
     letter: str
     plane: Plane
@@ -59,6 +64,7 @@ class CutView(NamedTuple):
     lines: list[Segment]
     area: list[Segment]
     turns: int = 0
+    moved: Place = (0.0, 0.0)
 
     @property
     def is_outline(self) -> bool:
@@ -69,6 +75,13 @@ class CutView(NamedTuple):
         """Its lines by the kinds of their layers."""
         return {kind: its for kind, its in (("SECTION", [] if self.is_outline else self.lines), ("AREA", self.area)) if its}
 
+    def place(self, place: Place, times: float) -> Place:
+        """A place of the sheet in the view that the section is of, where lengths are so many times as drawn."""
+        x, y = times * place[0], times * place[1]
+        for _ in range(self.turns):
+            x, y = y, -x
+        return x + self.moved[0], y + self.moved[1]
+
 
 def length_of(segments: Sequence[Segment]) -> float:
     return sum(it.high - it.low for it in segments)
@@ -77,11 +90,12 @@ def length_of(segments: Sequence[Segment]) -> float:
 # ---- the part's coordinates
 
 class Part(NamedTuple):
-    """The part as the sheet shows it: its views by their own names, and its coordinates along each axis, from its least one on."""
+    """The part as the sheet shows it: its views by their own names, its coordinates along each axis, from its least one on, and its rounds."""
 
     views: Mapping[str, Group]
     axes: list[list[float]]
     tolerance: float
+    rounds: Rounds
 
     def along(self, view: str, way: int) -> list[float]:
         """The coordinates that a view shows to the right, or upwards, from its least one on."""
@@ -90,15 +104,16 @@ class Part(NamedTuple):
         return [self.axes[axis][-1] - it for it in reversed(self.axes[axis])] if is_back else self.axes[axis]
 
 
-def part_of(placed: Placed, tolerance: float) -> Part:
-    views = {MIRRORED.get(view, view) if placed.mirrored else view: group for view, group in placed.views.items()}
+def part_of(placed: Placed, rounds: Rounds, tolerance: float) -> Part:
+    names = {view: MIRRORED.get(view, view) if placed.mirrored else view for view in placed.views}
+    views = {names[view]: group for view, group in placed.views.items()}
     found: list[set[float]] = [set(), set(), set()]
     for view, group in views.items():
         frame = FRAMES[view]
         for way, axis, is_back in ((0, frame.right, frame.right_back), (1, frame.up, frame.up_back)):
             places = (it for run in group.runs for it in (run.box()[way], run.box()[way + 2]))
             found[axis] |= {group.box[way + 2] - it if is_back else it - group.box[way] for it in places}
-    return Part(views, [distinct(its, 3 * tolerance) for its in found], tolerance)
+    return Part(views, [distinct(its, 3 * tolerance) for its in found], tolerance, {names[view]: its for view, its in rounds.items()})
 
 
 # ---- how a section stands on the sheet
@@ -174,8 +189,12 @@ Turn = Callable[[Sequence[Segment], int], list[Segment]]
 
 def fitted(section: CutView, turn: Turn, turns: int, part: Part) -> CutView | None:
     """A section turned in some way and at the part's own coordinates; none where it doesn't fit these."""
-    both = snapped(turn([*section.lines, *section.area], turns), section.plane.looks, part)
-    return section._replace(lines=both[:len(section.lines)], area=both[len(section.lines):], turns=turns) if both else None
+    its = turn([*section.lines, *section.area], turns)
+    both = snapped(its, section.plane.looks, part)
+    if both is None:
+        return None
+    right, up = (next((there.at - here.at for here, there in zip(its, both) if here.is_upright == way), 0.0) for way in (True, False))
+    return section._replace(lines=both[:len(section.lines)], area=both[len(section.lines):], turns=turns, moved=(right, up))
 
 
 def why_none(section: CutView, part: Part, is_upside_down: bool) -> str:
@@ -229,8 +248,10 @@ def fine_enough(planes: Sequence[Plane], part: Part, measure: Measure) -> Measur
 def hatches_in(group: Group, groups: Sequence[Group], sheet: Sheet, tolerance: float) -> Iterator[Hatch]:
     """The hatches whose sides lie in a group, and in none of the others that is less."""
     for kept in sheet.kept:
-        if kept.source.kind == "HATCH" and not is_head(kept.entity):
+        if kept.source.kind in HATCHES and not is_head(kept.entity):
             its = list(sides_of(kept))
+            if any(lies_across(group, box, is_filled, kept, tolerance) for box, is_filled, _ in its):
+                raise Refused(f"the {kept.source} reaches beyond its lines")
             if all(lies_in(group, groups, box, kept, tolerance) and not (is_filled and is_dot(box, group)) for box, is_filled, _ in its):
                 paths = [corners_of(path) for path in kept.entity.paths]
                 if not paths or not all(paths):
@@ -312,24 +333,35 @@ def between(one: Group, other: Group) -> float:
 
 
 class Reader(NamedTuple):
-    """What sections are read by: the sheet, the ends of its cutting-plane lines, the part, how many times lengths are multiplied, and its sections."""
+    """What sections are read by: the sheet, the ends of its cutting-plane lines, the part, how many times lengths are multiplied, its sections, and
+    what of the sheet is squared off so that a section shows it otherwise, if anything is."""
 
     sheet: Sheet
     marks: Sequence[Mark]
     part: Part
     times: Fraction
     cuts: Sequence[Cut]
+    unlike: str = ""
 
     def read(self, cut: Cut) -> CutView:
         """A section; refused where it isn't one of a single plane, or not of this part."""
         letter, tolerance = letter_of(cut), self.part.tolerance
         if any(other is not cut and letter in {it for it, _ in other.why.labels} for other in self.cuts):
             raise Refused(f"two groups have the label {letter}-{letter}")
+        if self.unlike:
+            raise Refused(self.unlike)
+        if curve := next(iter(cut.group.curves), None):
+            raise Refused(f"its {curve.source} {curve.why}")
         plane = plane_of(letter, self.marks, self.sheet.chains, self.part.views, tolerance)
         gap_of(plane, self.part)
+        section_rounds.check_plane(plane, self.part.views, self.part.rounds, OF_ONE * tolerance)
         groups = [*self.part.views.values(), *(it.group for it in self.cuts)]
-        lines, area = shown_in(cut.group, groups, self.sheet, times_of(cut.why.labels[0][1], self.sheet, self.times), tolerance)
-        return upright(CutView(letter, plane, cut.group, lines, area), self.part)
+        times = times_of(cut.why.labels[0][1], self.sheet, self.times)
+        lines, area = shown_in(cut.group, groups, self.sheet, times, tolerance)
+        section = upright(CutView(letter, plane, cut.group, lines, area), self.part)
+        its = section_rounds.within(cut.group, self.sheet.arcs, tolerance)
+        section_rounds.check_shown(its, lambda place: section.place(place, times), plane.looks, self.part.views, self.part.rounds, tolerance)
+        return section
 
     def checked(self, cut: Cut) -> CutView:
         """The same, with the section's name where it is refused."""
@@ -358,15 +390,19 @@ class Layers(NamedTuple):
         return pairs(*((999, f"draft section {letter} {name}") for name, letter in self.letters.items()))
 
 
-def layers_of(sheet: Sheet, marks: Sequence[Mark], placed: Placed, times: Fraction, measure: Measure, arguments: argparse.Namespace, tell: Tell) -> Layers:
-    """The layers of the sections beside the views. Each is told; where no cutting-plane line and no label tells of a plane they are left out."""
-    part, cuts = part_of(placed, arguments.tolerance), in_one(placed.sections)
+def layers_of(
+    sheet: Sheet, marks: Sequence[Mark], placed: Placed, times: Fraction, measure: Measure, arguments: argparse.Namespace, tell: Tell,
+    rounds: Rounds = {}, unlike: str = "",
+) -> Layers:
+    """The layers of the sections beside the views. Each is told; where no cutting-plane line and no label tells of a plane they are left out.
+    Refused where a section can't be read, also since what is squared off of the sheet is shown otherwise by one."""
+    part, cuts = part_of(placed, rounds, arguments.tolerance), in_one(placed.sections)
     if not marks and not any(cut.why.labels for cut in cuts):
         for cut in cuts:
             which = f"group {cut.number}, " if cut.number else ""
             tell(noted.left_out(f"a section, {which}since {cut.why}; it has no label A-A, which tells its plane: {cut.group}"))
         cuts = []
-    reader = Reader(sheet, marks, part, times, cuts)
+    reader = Reader(sheet, marks, part, times, cuts, unlike)
     sections = [reader.checked(cut) for cut in cuts]
     measure = fine_enough([it.plane for it in sections], part, measure)
     layers: dict[str, list[Segment]] = {}

@@ -14,8 +14,8 @@ from .advice import InTheWay
 from .controls import option
 from .cutting import Mark, Word, corners_of, distance, is_head, words_of
 from .messages import Refused, many
-from .groups import MOST_GROUPS, Group, holds, merged, pieces_of
-from .reading import Box, Kept, Sheet, Source, box_of
+from .groups import MOST_GROUPS, Group, holds, meet, merged, pieces_of
+from .reading import HATCHES, Box, Kept, Sheet, Source, box_of
 from .straight import Run
 
 # What says section, in the languages of linetypes and layers; not where a line or a plane is meant, or a cut-out.
@@ -70,8 +70,9 @@ class Cut(NamedTuple):
         return f"group {self.number}, {self.group}" if self.number else str(self.group)
 
 
-# What tells which of all groups are sections, by their numbers from 0 on, and why; it knows which ones the user leaves out.
-TellSections = Callable[[Sequence[Group], Sequence[Group]], dict[int, Why]]
+# What tells which of all groups are sections, by their numbers from 0 on, and why; it knows which ones the user leaves out, and None where
+# names tell the views, so that groups have no numbers.
+TellSections = Callable[[Sequence[Group], Sequence[Group] | None], dict[int, Why]]
 
 
 class Sections(NamedTuple):
@@ -83,7 +84,7 @@ class Sections(NamedTuple):
     marks: Sequence[Mark]
     tolerance: float
 
-    def among(self, groups: Sequence[Group], left_out: Sequence[Group]) -> dict[int, Why]:
+    def among(self, groups: Sequence[Group], left_out: Sequence[Group] | None) -> dict[int, Why]:
         """The numbers of the groups that are sections, with what tells so; refused where a section is told and its group isn't."""
         found: dict[int, list[Why]] = defaultdict(list)
         for number, why in (*self.by_hatch(groups), *by_layer(groups)):
@@ -98,8 +99,10 @@ class Sections(NamedTuple):
         hatched: dict[int, dict[Source, None]] = defaultdict(dict)
         for box, is_filled, kept in self.hatches:
             number = holding(groups, box, kept, self.tolerance)
-            if number is not None and not (is_filled and is_dot(box, groups[number])):
-                hatched[number][kept.source] = None
+            within = [it for it, group in enumerate(groups) if lies_across(group, box, is_filled, kept, self.tolerance)] if number is None else [number]
+            for it in within:
+                if not (is_filled and is_dot(box, groups[it])):
+                    hatched[it][kept.source] = None
         for number, sources in hatched.items():
             more = f" and {many(len(sources) - 1, 'more hatch', 'more hatches')} lie" if len(sources) > 1 else " lies"
             yield number, Why(f"{next(iter(sources))}{more} in it", tuple(sources))
@@ -126,7 +129,7 @@ class Sections(NamedTuple):
                               f"{groups[near[0][1]]}, or {groups[near[1][1]]}; set it nearer to its group, or leave out its layer")
             yield (told or near)[0][1], Why(f"{word.text!r} stands by it", (word.source,), ((letter, word),) if letter else ())
 
-    def refuse_lost(self, groups: Sequence[Group], found: dict[int, list[Why]], left_out: Sequence[Group]) -> None:
+    def refuse_lost(self, groups: Sequence[Group], found: dict[int, list[Why]], left_out: Sequence[Group] | None) -> None:
         """Refuses a cutting-plane line whose section is none of the groups that are known as sections."""
         known = {letter for letter, _ in self.labels}
         lost = [mark for mark in self.marks if mark.letter not in known]
@@ -134,9 +137,10 @@ class Sections(NamedTuple):
             return
         letter = lost[0].letter
         number = min(range(len(groups)), key=lambda it: distance(groups[it].box, lost[0].word.place))
-        way = f", or leave it out by {option('leave-out', 'group=NUMBER')}" if len(groups) > FEWEST_VIEWS else ""
-        raise Refused(f"a cutting-plane line {letter}-{letter} is drawn at group {number + 1}, {groups[number]}, and which group is its section "
-                      f"isn't told, by a hatch or a label {letter}-{letter}: label it{way}")
+        has_numbers = left_out is not None
+        way = f", or leave it out by {option('leave-out', 'group=NUMBER')}" if has_numbers and len(groups) > FEWEST_VIEWS else ""
+        raise Refused(f"a cutting-plane line {letter}-{letter} is drawn at {f'group {number + 1}, ' if has_numbers else ''}{groups[number]}, and which "
+                      f"group is its section isn't told, by a hatch or a label {letter}-{letter}: label it{way}")
 
 
 def holding(groups: Sequence[Group], box: Box, kept: Kept, tolerance: float) -> int | None:
@@ -145,6 +149,13 @@ def holding(groups: Sequence[Group], box: Box, kept: Kept, tolerance: float) -> 
     its = [(group.width * group.height, number) for number, group in enumerate(groups)
            if group.first.view == kept.source.view and holds(group.box, box, reach)]
     return min(its)[1] if its else None
+
+
+def lies_across(group: Group, box: Box, is_filled: bool, kept: Kept, tolerance: float) -> bool:
+    """Whether a hatch with this box lies across a group's: a filled one that holds all of it is a ground."""
+    reach = 3 * tolerance + 0.01 * math.dist(box[:2], box[2:])
+    is_across = group.first.view == kept.source.view and meet(group.box, box, -reach) and not holds(group.box, box, reach)
+    return is_across and not (is_filled and holds(box, group.box, reach))
 
 
 def is_dot(box: Box, group: Group) -> bool:
@@ -201,7 +212,7 @@ def among_named(views: Mapping[str, Group], outside: Sequence[Run], tell_section
     pieces = pieces_of(outside, tolerance)
     beside = merged(pieces, tolerance) if len(pieces) <= MOST_GROUPS and not next(iter(views.values())).first.file else []
     every, sections = [*views.values(), *beside], []
-    for number, why in sorted(tell_sections(every, every).items()):
+    for number, why in sorted(tell_sections(every, None).items()):
         if number < len(views):
             view, group = list(views.items())[number]
             raise InTheWay(f"{view}, {group}, is a section, since {why}: a section is no view. Draw {view} uncut too", why.sources, NO_SECTION)
@@ -216,7 +227,7 @@ def labels_of(sheet: Sheet) -> list[tuple[str, Word]]:
 
 def sections_of(sheet: Sheet, marks: Sequence[Mark], tolerance: float) -> Sections:
     """What of a sheet tells sections."""
-    hatches = [it for kept in sheet.kept if kept.source.kind == "HATCH" and not is_head(kept.entity) for it in sides_of(kept)]
+    hatches = [it for kept in sheet.kept if kept.source.kind in HATCHES and not is_head(kept.entity) for it in sides_of(kept)]
     lines = [(box, kept) for kept in sheet.kept if kept.source.kind == "LINE" and (box := box_of(kept.entity))]
     return Sections(hatches, lines, labels_of(sheet), marks, tolerance)
 

@@ -133,7 +133,7 @@ def answered(asked: asking.Asked, arguments: argparse.Namespace, listed: int) ->
         say(f"draft solve: {arguments.answer} has the solids in a mirror, x turned round, as recon read them")
     if not arguments.json:
         rows = rounded_told(asked, asked.rounds, listed) if asked.rounds else told(asked, listed)
-        rows += [*ruled_out.told(asked, arguments), *left_open.told(asked, arguments)]
+        rows += [*ruled_out.told(asked, arguments), *ruled_out.may_be_sections(asked, arguments), *left_open.told(asked, arguments)]
         write_result("".join(f"{row}\n" for row in rows), None)
     count = records.count_of(asked, asked.answer(0))
     if asked.missing and count > 1:

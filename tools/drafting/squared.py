@@ -10,19 +10,20 @@ from collections.abc import Iterator, Mapping, Sequence
 from fractions import Fraction
 from typing import NamedTuple
 
-from . import chamfers, cones, given, holes, noted, rounds, sheet, tangent, unconfirmed
+from . import chamfers, cones, given, holes, noted, rounds, section_views, sheet, tangent, unconfirmed
 from .cutting import Mark
 from .drawing import VIEWS, Place
 from .given import Cone, Given, Stretch
-from .groups import Group, frames, holds, merged, pieces_of
+from .groups import Group, frames, holds, meet, merged, pieces_of
 from .messages import Refused, many
 from .noted import Note, Tell
 from .panels import FRAMES
 from .placing import Placed
 from .reading import Arc, Box, Edge, Sheet, Unread, thing_of, where
-from .rounds import OF_ONE, Move, Round, Squares, box_of, is_level, is_straight
+from .rounds import OF_ONE, Move, Round, Squares, arc_box, box_of, is_straight
 from .straight import Measure, Run, runs_of
 from .tangent import Reading, Views
+from .two_exports import arcs_hidden_by, twice_hidden
 from .unread import refuse_oblique, refuse_unread
 
 # The decimals of coordinates that have no end, as on a bolt circle: solids go by their order alone.
@@ -49,8 +50,8 @@ class Cones(NamedTuple):
 
 
 class Found(NamedTuple):
-    """What is read of a sheet, and its cutting-plane lines: its lines, its arcs within the views, and where these are;
-    its cones, the holes that are taken off, and the ways in which other oblique edges are squared to corners."""
+    """What is read of a sheet, and its cutting-plane lines: its lines, its arcs within the views, and where these are; its cones, the holes that are
+    taken off, the arcs in its sections, and the ways in which other oblique edges are squared to corners."""
 
     path: str | None
     sheet: Sheet
@@ -61,6 +62,7 @@ class Found(NamedTuple):
     arguments: argparse.Namespace
     cones: "Cones"
     holes: Sequence[holes.Hole]
+    cut: Sequence[Arc] = ()
     corners: Sequence[tuple[chamfers.Squared, ...]] = ((),)
     has_all_corners: bool = True
 
@@ -72,48 +74,6 @@ class Found(NamedTuple):
         boxes = {view: group.box for view, group in self.placed.views.items()}
         placed = [(view, one) for one in rounds_of for view, box in boxes.items() if holds(box, one.box, OF_ONE * self.tolerance)]
         return Views(boxes, self.lines, placed, self.tolerance, self.placed.mirrored)
-
-
-# ---- two exports of one sheet
-
-def arcs_hidden_by(whole: Sequence[Arc], visible: Sequence[Arc], tolerance: float) -> Iterator[Arc]:
-    """The arcs of a sheet, cut where arcs of its export without hidden lines end, and hidden where that one lacks them."""
-    for arc in whole:
-        beside = [it for it in visible if rounds.are_of_one(it, arc, tolerance)]
-        noise = math.degrees(1e-3 / arc.radius)
-        offs = [(at - arc.start) % 360 for it in beside if it.sweep < 360 - noise for at in (it.start, it.start + it.sweep)]
-        stops = sorted({0.0, arc.sweep, *(off for off in offs if noise < off < arc.sweep - noise)})
-        for low, high in itertools.pairwise(stops):
-            if high - low > noise:
-                seen = any((arc.start + (low + high) / 2 - it.start) % 360 <= it.sweep for it in beside)
-                yield arc._replace(hidden=not seen, start=(arc.start + low) % 360, sweep=high - low)
-
-
-Row = tuple[bool, float]
-
-
-def tallied(edges: Sequence[Edge], tolerance: float) -> dict[Row, list[tuple[float, float]]]:
-    """From where to where level and upright edges go, by their lines; a drawing's noise is evened out by the first edge of each."""
-    rows: dict[Row, list[tuple[float, float]]] = {}
-    for edge in sorted(edges, key=lambda it: (is_level(it), it.start[1 if is_level(it) else 0])):
-        way = 0 if is_level(edge) else 1
-        at = edge.start[1 - way]
-        last = next(reversed(rows), None)
-        key = last if last and last[0] == bool(way) and abs(last[1] - at) <= OF_ONE * tolerance else (bool(way), at)
-        rows.setdefault(key, []).append(tangent.span_of(edge, way))
-    return rows
-
-
-def twice_hidden(whole: Sequence[Edge], visible: Sequence[Edge], tolerance: float) -> Iterator[Edge]:
-    """Hidden lines under visible ones: the whole export has a stretch more often there than the one of visible lines."""
-    straight = [it for it in whole if is_straight(it, OF_ONE * tolerance)]
-    rows, seen = tallied(straight, tolerance), tallied(visible, tolerance)
-    for (upright, at), its in rows.items():
-        others = [it for (way, there), row in seen.items() if way == upright and abs(there - at) <= 2 * OF_ONE * tolerance for it in row]
-        for low, high in itertools.pairwise(sorted({stop for it in [*its, *others] for stop in it})):
-            counts = [sum(a <= (low + high) / 2 <= b for a, b in row) for row in (its, others)]
-            if high - low > OF_ONE * tolerance and counts[0] > counts[1] > 0:
-                yield Stretch("", upright, at, low, high, True).edge()._replace(source=straight[0].source)
 
 
 # ---- noise
@@ -160,11 +120,6 @@ def upon(squares: Sequence[Edge], edges: Sequence[Edge]) -> list[Edge]:
 
 # ---- which arcs are of the views
 
-def arc_box(arc: Arc) -> Box:
-    turns = [arc.start, arc.start + arc.sweep, *(at for at in range(0, 720, 90) if arc.start <= at <= arc.start + arc.sweep)]
-    return box_of([arc.at(it) for it in turns])
-
-
 def stand_in(arc: Arc) -> Run:
     """What stands for an arc where lines are grouped: an oblique line across its box."""
     box = arc_box(arc)
@@ -204,23 +159,22 @@ def read(path: str | None, read_sheet: Sheet, marks: Sequence[Mark], arguments: 
     placed = sheet.found_views(path, read_sheet, bare, marks, arguments, noted.tell_none)
     if missing := [view for view in VIEWS if view not in placed.views]:
         raise Refused(f"{missing[0]} isn't drawn, and a sheet with circles or arcs is read where all three main views are there: draw it too")
-    for cut in placed.sections:
-        tell(noted.left_out(f"a section, {cut}, since {cut.why}; of a sheet with rounds or oblique edges sections aren't read"))
     # What no reading changes is refused at once.
     refuse_unread(path, placed, read_sheet.unread, tolerance)
     round_ones = cones_in(placed, edges, rounds.rounds_of(kept, tolerance), tolerance)
     views = Views({view: group.box for view, group in placed.views.items()}, edges, [], tolerance, placed.mirrored)
     oblique, causes = chamfers.chamfers_of(views, round_ones.flanks)
     refuse_oblique(path, placed, [*round_ones.flanks, *(edge for one in oblique for edge in one.edges)], lambda edge: not_taken(causes.get(edge)))
+    cut = [arc for arc in kept if any(meet(it.group.box, arc_box(arc), tolerance) for it in placed.sections)]
     for arc in kept:
-        if not any(holds(group.box, arc_box(arc), OF_ONE * tolerance) for group in placed.views.values()):
+        if not any(holds(group.box, arc_box(arc), OF_ONE * tolerance) for group in placed.views.values()) and not any(arc is it for it in cut):
             left.append(arc)
     for note in noted.counted("left out", Counter(thing_of(arc.source, "outside the views") for arc in left)):
         tell(note)
-    within = [arc for arc in kept if not any(arc is it for it in left)]
+    within = [arc for arc in kept if not any(arc is it for it in (*left, *cut))]
     every = Found(path, read_sheet, marks, edges, within, placed, arguments, round_ones, ()).views(rounds.rounds_of(within, tolerance))
     taken = [one for view, one in every.rounds if is_of_cone(view, one, placed, round_ones.its, tolerance)]
-    return Found(path, read_sheet, marks, edges, within, placed, arguments, round_ones, holes.holes_of(every, taken), *chamfers.choices(views, oblique))
+    return Found(path, read_sheet, marks, edges, within, placed, arguments, round_ones, holes.holes_of(every, taken), cut, *chamfers.choices(views, oblique))
 
 
 def is_of_cone(view: str, one: Round, placed: Placed, its: Sequence[Cone], tolerance: float) -> bool:
@@ -285,7 +239,8 @@ def squared(found: Found, reading: Reading, corners: Sequence[chamfers.Squared])
     left = [*found.cones.across, *(stretch for it in found.holes for stretch in it.left)]
     rest = tangent.without(lines, [(it, True) for it in left], found.tolerance)
     stepped = chamfers.squared_off([it for edge in rest for it in found.cones.flanks.get(edge, (edge,))], corners, found.tolerance)
-    given_edges = [*stepped, *tangent.added(views, reading)]
+    in_sections, in_views = apart(stepped, found)
+    given_edges = [*in_views, *tangent.added(views, reading)]
     inner = [one.centre for view, one in views.rounds if (view, round(one.radius, 2)) in reading.inner]
     its = [one._replace(is_inner=len(one.numbers) == 1 and not one.cuts and one.centre in inner) for _, one in views.rounds
            if not any(it.one == one for it in found.holes)]
@@ -295,7 +250,29 @@ def squared(found: Found, reading: Reading, corners: Sequence[chamfers.Squared])
     squares.doubts.extend(chamfers.doubts_of(corners, [it for it in lines if is_straight(it, OF_ONE * found.tolerance)], its, found.tolerance))
     squares.doubts.extend(f"a {it.one} may end where another line goes across" for it in found.holes if it.is_open)
     squares.doubts.extend([] if found.has_all_corners else [f"its oblique edges may be squared off in more than {chamfers.MOST} ways"])
-    return lines, squares
+    cut = rounds.Squaring(in_sections, rounds.rounds_of(found.cut, found.tolerance), found.tolerance, False).done().edges
+    return lines, squares._replace(edges=[*squares.edges, *cut])
+
+
+def apart(edges: Sequence[Edge], found: Found) -> tuple[list[Edge], list[Edge]]:
+    """The edges of the sections, and the others."""
+    parted: tuple[list[Edge], list[Edge]] = [], []
+    for edge in edges:
+        parted[not any(holds(it.group.box, box_of([edge.start, edge.end]), OF_ONE * found.tolerance) for it in found.placed.sections)].append(edge)
+    return parted
+
+
+def unlike(found: Found, reading: Reading, corners: Sequence[chamfers.Squared], squares: Squares) -> str:
+    """What is squared off otherwise than each circle to its square, which a section shows otherwise; nothing where nothing is."""
+    cut = next((it for it in squares.rounds if it.cuts), None)
+    if edge := next(iter(found.cones.flanks), None) or next((edge for it in corners for edge in it.one.edges), None):
+        return f"in a view the {edge.source} is oblique, and what a section shows of such an edge isn't read"
+    if hole := next(iter(found.holes), None):
+        return f"the square of a {hole.one} meets others, and what a section shows of such ones isn't read"
+    if cut or reading.inner or reading.is_eager:
+        which = f"a {cut}" if cut else "its rounds"
+        return f"{which} may be cut by walls or end free, and what a section shows of such ones isn't read"
+    return ""
 
 
 def measured(path: str | None, placed: Placed, times: Fraction, arguments: argparse.Namespace, tell: Tell) -> Measure:
@@ -415,6 +392,7 @@ def drawn(found: Found, reading: Reading, corners: Sequence[chamfers.Squared], n
     told = given_by(found, placed, lines, squares, corners, tuple(left), float(measure.times))._replace(reading=number, suspects=suspects_of(found))
     tell_squares(told, tell)
     tell_cones(found, tell)
+    layers = layers_of(found, reading, corners, squares, placed, times, measure, tell)
     for stretch in told.smooth:
         way = "upright" if stretch.is_upright else "level"
         tell(noted.left_out(f"in {stretch.view} the {way} line at {stretch.at:.6g} from {stretch.low:.6g} to {stretch.high:.6g}, taken as a tangent edge",
@@ -424,7 +402,21 @@ def drawn(found: Found, reading: Reading, corners: Sequence[chamfers.Squared], n
     if len(squares.doubts) > MOST_TOLD:
         more = len(squares.doubts) - MOST_TOLD
         tell(noted.warning(f"{many(more, 'place')} more of this kind", more))
-    return sheet.drawn_views(found.path, found.sheet, placed, times, measure, found.arguments, tell, given.comments(told))
+    comments = given.comments(told) + layers.comments
+    return sheet.drawn_views(found.path, found.sheet, placed, times, layers.measure, found.arguments, tell, comments, layers.strokes)
+
+
+def layers_of(
+    found: Found, reading: Reading, corners: Sequence[chamfers.Squared], squares: Squares, placed: Placed, times: Fraction, measure: Measure, tell: Tell
+) -> section_views.Layers:
+    """The layers of a sheet's sections, squared off."""
+    if not placed.sections:
+        return section_views.Layers({}, measure, {})
+    its: dict[str, list[Round]] = defaultdict(list)
+    for view, one in found.views(rounds.rounds_of(found.arcs, found.tolerance)).rounds:
+        its[view].append(one)
+    why = unlike(found, reading, corners, squares)
+    return section_views.layers_of(found.sheet, found.marks, placed, times, measure, found.arguments, tell, its, why)
 
 
 def suspects_of(found: Found) -> tuple[str, ...]:

@@ -61,6 +61,15 @@ def form_of(words: str) -> Form:
     return Form(**{name: type(getattr(Form(), name))(value) for name, value in told.items()})
 
 
+def new_space() -> tuple[Any, Any]:
+    """A document with the linetypes and the arrow that are drawn with, and its model space."""
+    doc = sheets.new()
+    for name, pattern in LINETYPES.items():
+        doc.linetypes.add(name, pattern)
+    ARROWS.create_block(doc.blocks, ARROWS.closed_filled)
+    return doc, doc.modelspace()
+
+
 class Maker:
     """Draws a part and its sections on one sheet."""
 
@@ -74,11 +83,7 @@ class Maker:
         names = ("FRONT", "TOP", self.side)
         self.views = {"SIDE" if name == self.side else name: strokes_of(view_of(self.cells, name)) for name in names}
         self.places = sheets.places_of(self.views, angle, left)
-        self.doc = sheets.new()
-        for name, pattern in LINETYPES.items():
-            self.doc.linetypes.add(name, pattern)
-        ARROWS.create_block(self.doc.blocks, ARROWS.closed_filled)
-        self.space = self.doc.modelspace()
+        self.doc, self.space = new_space()
         look = (lambda view, dashed: {**sheets.by_linetype(view, dashed), "layer": self.side if view == "SIDE" else view}) if with_names else sheets.by_linetype
         self.right = max(self.places[view][0] + sheets.size_of(its)[0] for view, its in self.views.items()) + 3 * GAP
         self.look = look
@@ -157,8 +162,8 @@ class Maker:
 
     # ---- the section
 
-    def section(self, form: Form, uncut: Iterable[Cell] = ()) -> None:
-        """What a plane leaves of the part, drawn somewhere; of the area some cells aren't hatched, as those of a rib."""
+    def section(self, form: Form, uncut: Iterable[Cell] = (), is_mirrored: bool = False) -> None:
+        """What a plane leaves of the part, drawn somewhere; of the area some cells aren't hatched, as those of a rib; or all of it in a mirror."""
         its = self.cells
         shown = section_of(its, form.looks, form.plane)
         area = area_cells(its, form.looks, form.plane, set(uncut))
@@ -171,7 +176,7 @@ class Maker:
         x, y = self.stand(form, turned)
 
         def place(it: Place) -> Place:
-            a, b = it
+            a, b = (width - it[0], it[1]) if is_mirrored else it
             for _ in range(form.turns):
                 a, b = -b, a
             a += {1: height, 2: width}.get(form.turns, 0)

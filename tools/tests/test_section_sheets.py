@@ -5,6 +5,7 @@ import random
 import re
 import tempfile
 import unittest
+from collections import Counter
 from collections.abc import Iterable
 
 from drafting import asking, command, ruled_out, sheet, solve
@@ -29,7 +30,16 @@ PARSER = command.parser_of(command.commands())
 KINDS = {"SECTION": section_of, "AREA": area_of}
 MIRRORED = {"SIDE": "LEFT", "LEFT": "SIDE"}
 # How many random sheets there are, in the gate and with --long; and of how many solids of the views alone at most.
-SHEETS, MANY, MOST_SOLIDS = 25, 150, 200
+SHEETS, MANY, MOST_SOLIDS = 20, 270, 200
+# Every how manieth of them is drawn as none is read, and how: what is otherwise than in a section that is read, or a rib that is drawn uncut.
+EVERY = 2
+OTHERWISE = {
+    "a rib uncut": ("",), "arrows the wrong way": ("wrong=reversed",), "upside down": ("turns=2",), "mirrored": ("mirrored=1",),
+    "in a view's place": ("label=none where=none hatch=one", "label=none where=none hatch=lines", "where=none hatch=none", "label=none hatch=none", ""),
+    "a half": ("hatch=half", "wrong=half"), "offset": ("wrong=bent", "wrong=offset", "wrong=jog"), "aligned": ("wrong=turned_end", "wrong=oblique"),
+    "at another scale": ("scale=2", "scale=0.5"), "turned": ("turns=1", "turns=3"), "one arrow, or two ways": ("wrong=one_end", "wrong=opposite"),
+    "without its label or line": ("label=none", "where=none"), "of another letter": ("letter=C",), "several parts": ("hatch=patterns",),
+}
 
 # A form, and its two layers: `both`, or the one that is told; the drawing's solid is the part then. Or words of a refusal behind `!`.
 FORMS = """\
@@ -227,15 +237,31 @@ class SectionSheets(unittest.TestCase):
                 self.assertEqual(drawn.decimals, decimals, said)
                 self.assertRegex(said, rf"shows behind y = {told}[:;]")
 
-    def random_sheets(self, count: int, seed: int) -> int:
-        """How many of so many random sheets have sections that leave fewer solids than their views do."""
-        rng, fewer, tried = random.Random(seed), 0, 0
-        while tried < count:
+    def test_in_a_views_place_with_nothing_told(self) -> None:
+        """No hatch, label or line tells it, and no solid has the three views: then it is said that a view may be a section, and of which plane."""
+        for words, name in (("looks=FRONT plane=4 at=FRONT", "FRONT may be a section, behind y = 4 mm"),
+                            ("looks=TOP plane=7 at=TOP", "TOP may be a section, behind z = 7 mm"),
+                            ("looks=SIDE plane=4 at=SIDE left=1 angle=first", "SIDE may be a section, behind x = 4 mm"),
+                            ("looks=LEFT plane=4 at=SIDE left=1", "LEFT may be a section, behind x = 4 mm")):
+            section_sheets.made(form_of(f"{words} where=none label=none hatch=none"), self.file)
+            with self.subTest(words):
+                asked, _ = self.asked()
+                self.assertEqual(ruled_out.may_be_sections(asked, PARSER.parse_args(["solve", str(self.file)])), [
+                    f"{name}: with the other two views so it has 1 solid. A section is no view: draw it uncut."])
+
+    def random_sheets(self, count: int, seed: int) -> "tuple[int, Counter[tuple[str, str]]]":
+        """How many of so many random sheets have sections that leave fewer solids than their views do; and what comes of them, by how they are
+        drawn."""
+        rng, fewer, found = random.Random(seed), 0, Counter[tuple[str, str]]()
+        while found.total() < count:
             cells = random_part(rng)
-            forms = [form for form in random_forms(rng, cells)]
-            if not forms:
-                continue
+            forms = random_forms(rng, cells)
             maker = Maker(cells, *rng.choice((("third", False), ("third", False), ("first", True), ("third", True), ("first", False))))
+            if found.total() % EVERY:
+                name, form = rng.choice(list(OTHERWISE)), forms[0]
+                if self.draw_otherwise(maker, name, form, rng):
+                    found[name, self.outcome(cells)] += 1
+                continue
             maker.draw_views()
             maker.doc.saveas(self.file)
             views = self.asked("--solids", str(MOST_SOLIDS))[0]
@@ -245,12 +271,50 @@ class SectionSheets(unittest.TestCase):
                 maker.cutting_line(form)
                 maker.section(form)
             maker.doc.saveas(self.file)
-            tried += 1
-            fewer += self.checked(cells, forms, [cells_of(solid) for solid in views.answer().solids])
-        return fewer
+            is_fewer, is_alone = self.checked(cells, forms, [cells_of(solid) for solid in views.answer().solids])
+            found["read", "right" if is_alone else "among several"] += 1
+            fewer += is_fewer
+        return fewer, found
 
-    def checked(self, cells: set[Cell], forms: "list[Form]", solids: list[set[Cell]]) -> bool:
-        """A sheet whose views alone have these solids: just those are left that show its sections, as the slow writer draws them."""
+    def draw_otherwise(self, maker: "Maker", name: str, form: "Form", rng: random.Random) -> bool:
+        """Draws a sheet of a section as none is read; whether that is one at all."""
+        told = dict(word.split("=") for word in rng.choice(OTHERWISE[name]).split())
+        uncut: set[Cell] = set()
+        if name == "a rib uncut":
+            uncut, form = rib_of(maker.cells, form, rng), form._replace(hatch="one")
+        if name == "in a view's place":
+            form = form._replace(looks=rng.choice(("FRONT", "TOP", "SIDE")), where=form.where)
+            form = form._replace(at=form.looks, plane=rng.choice([it for it in planes_through(maker.cells, form.looks) if it % 2]),
+                                 where=rng.choice([view for view in ("FRONT", "TOP", "SIDE") if view != form.looks]))
+        if name in ("a half", "several parts"):
+            form = form._replace(hatch="one")
+        is_mirrored = bool(told.pop("mirrored", ""))
+        form = form._replace(**{key: type(getattr(form, key))(value) for key, value in told.items()})
+        if name == "a rib uncut" and not uncut or form.at in maker.places and maker.side != "SIDE":
+            return False
+        maker.draw_views(*([form.at] if form.at in maker.places else []))
+        if form.where != "none":
+            maker.cutting_line(form)
+        maker.section(form, uncut, is_mirrored)
+        maker.doc.saveas(self.file)
+        return True
+
+    def outcome(self, cells: set[Cell]) -> str:
+        """What comes of a sheet of a part."""
+        try:
+            asked, _ = self.asked("--solids", str(MOST_SOLIDS))
+        except Refused:
+            return "refused"
+        left = [cells_of(solid) for solid in asked.answer().solids]
+        if not left:
+            arguments = PARSER.parse_args(["solve", str(self.file)])
+            arguments.sections = bool(shown_in(asked.lines))
+            return "none, why is said" if ruled_out.told(asked, arguments) + ruled_out.may_be_sections(asked, arguments) else "none"
+        return "wrong" if cells not in left else "right" if len(left) == 1 else "among several"
+
+    def checked(self, cells: set[Cell], forms: "list[Form]", solids: list[set[Cell]]) -> tuple[bool, bool]:
+        """A sheet whose views alone have these solids: just those are left that show its sections, as the slow writer draws them. Whether these are
+        fewer, and whether the part is alone."""
         asked, said = self.asked()
         left = [cells_of(solid) for solid in asked.answer().solids]
         told = {letter: names.split(", ") for letter, names in re.findall(r"SECTION (.)-. is .*: layers? (.*)", said)}
@@ -260,14 +324,22 @@ class SectionSheets(unittest.TestCase):
         fitting = [it for it in solids if all(show(it, looks, plane) == show(cells, looks, plane) for show, looks, plane in kinds)]
         self.assertIn(cells, left, said)
         self.assertEqual(left, fitting, said)
-        return len(left) < len(solids)
+        return len(left) < len(solids), len(left) == 1
+
+    def none_is_wrong(self, count: int, seed: int) -> "Counter[tuple[str, str]]":
+        fewer, found = self.random_sheets(count, seed)
+        self.assertEqual([row for row in found if row[1] in ("wrong", "none")], [], found)
+        self.assertGreater(fewer, count // 16)
+        return found
 
     def test_random_sheets(self) -> None:
-        self.assertGreater(self.random_sheets(SHEETS, 79), SHEETS // 8)
+        self.none_is_wrong(SHEETS, 79)
 
     @needs_long()
     def test_many_random_sheets(self) -> None:
-        self.assertGreater(self.random_sheets(MANY, 80), MANY // 8)
+        found = self.none_is_wrong(MANY, 80)
+        for name in sorted({name for name, _ in found}):
+            print(name, {outcome: count for (one, outcome), count in sorted(found.items()) if one == name})
 
 
 def random_part(rng: random.Random) -> set[Cell]:
@@ -277,6 +349,16 @@ def random_part(rng: random.Random) -> set[Cell]:
     cells = unit_cells(grid, cuts)
     least = [min(cell[axis] for cell in cells) for axis in range(3)]
     return {(x - least[0], y - least[1], z - least[2]) for x, y, z in cells}
+
+
+def rib_of(cells: set[Cell], form: "Form", rng: random.Random) -> set[Cell]:
+    """Some of the cells that a plane cuts, a box of them, but not all; none where there is no such one."""
+    axis = FRAMES[form.looks].sight
+    layer = form.plane - 1 if FRAMES[form.looks].sight_back else form.plane
+    cut = sorted(cell for cell in cells if cell[axis] == layer)
+    one, other = rng.choice(cut), rng.choice(cut)
+    box = {cell for cell in cut if all(min(a, b) <= it <= max(a, b) for a, b, it in zip(one, other, cell))}
+    return box if len(box) < len(cut) else set()
 
 
 def random_forms(rng: random.Random, cells: set[Cell]) -> "list[Form]":

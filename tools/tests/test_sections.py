@@ -54,6 +54,18 @@ class Drawing:
         (x, y), _ = self.at, self.size
         self.space.add_hatch(color=3).paths.add_edge_path().add_arc((x + 1, y + 1), 0.9, 0, 360)
 
+    def filled(self) -> None:
+        """As a program writes it that knows polygons with holes."""
+        (x, y), (width, height) = self.at, self.size
+        self.space.add_mpolygon(color=7, fill_color=3).paths.add_polyline_path([(x, y), (x + width, y), (x + width, y + height / 4), (x, y + height / 4)])
+
+    def hatch_beyond(self) -> None:
+        """One that reaches beyond the lines, on one side."""
+        (x, y), (width, height) = self.at, self.size
+        hatch = self.space.add_hatch()
+        hatch.set_pattern_fill("ANSI31", scale=0.2)
+        hatch.paths.add_polyline_path([(x - 2, y), (x + width / 2, y), (x + width / 2, y + height / 4), (x - 2, y + height / 4)])
+
     def hatch_lines(self, **look: Any) -> None:
         (x, y), (width, height) = self.at, self.size
         for number in range(5):
@@ -120,6 +132,8 @@ LAYERS = {name: f"on the layer or in the block {name}" for name in ("SectionA", 
 TELLS: dict[str, tuple[Tells, str]] = {
     "hatch": (Drawing.hatch, r"HATCH \w+ on layer 0 lies in it"),
     "bent_hatch": (Drawing.bent_hatch, "HATCH"),
+    "filled_hatch": (Drawing.filled, r"MPOLYGON \w+ on layer 0 lies in it"),
+    "hatch_beyond": (Drawing.hatch_beyond, r"HATCH \w+ on layer 0 lies in it"),
     "hatch_lines": (Drawing.hatch_lines, r"\d hatch lines lie in it"),
     "hatch_lines_on_a_layer": (lambda it: it.hatch_lines(layer="Schraffur"), r"\d hatch lines lie in it"),
     **{f"label {text}": (lambda it, text=text: it.label(text), "stands by it") for text in (  # type: ignore[misc]
@@ -166,6 +180,11 @@ class Sections(unittest.TestCase):
                                                                          f".*Draw {cut} uncut too"):
                     self.drawn(drawn_with(cut, False, tells))
 
+    def test_in_the_place_of_top(self) -> None:
+        for name in ("hatch", "filled_hatch", "hatch_beyond", "hatch_lines", "label A-A"):
+            with self.subTest(name), self.assertRaisesRegex(Refused, "in the place of TOP stands group .* is a section, since .*Draw TOP uncut too"):
+                self.drawn(drawn_with("TOP", False, TELLS[name][0]))
+
     def test_beside_the_views(self) -> None:
         """What has a label and a cutting-plane line is read; what has neither is left out; all else is refused with the way to leave it out, which
         was tried."""
@@ -210,6 +229,13 @@ class Sections(unittest.TestCase):
             self.drawn(drawing)
         strokes, _ = self.drawn(drawing, "--leave-out", "layer=HATCHES")
         self.assertEqual(strokes, self.own)
+
+    def test_a_cutting_plane_line_among_views_that_layers_name(self) -> None:
+        drawing = Drawing()
+        sheets.draw(drawing.space, drawing.views, drawing.places, lambda view, dashed: {**sheets.by_linetype(view, dashed), "layer": view})
+        drawing.cutting_plane()
+        with self.assertRaisesRegex(Refused, r"a cutting-plane line A-A is drawn at \d+ lines, .*which group is its section isn't told, .*: label it$"):
+            self.drawn(drawing)
 
     def test_what_is_no_section(self) -> None:
         def notes(it: Drawing) -> None:
