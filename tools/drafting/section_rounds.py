@@ -38,6 +38,13 @@ def within(group: Group, arcs: Sequence[Arc], tolerance: float) -> list[Round]:
     return rounds_of([arc for arc in arcs if not arc.hidden and meet(group.box, arc_box(arc), tolerance)], tolerance)
 
 
+def check_radii(its: Sequence[Round], times: float, looks: str, rounds: Rounds, tolerance: float) -> None:
+    """Refuses a round of a section, whose lengths are so many times as drawn, where no view along the same axis shows one as large."""
+    shown = [one.radius for view, ones in rounds.items() if FRAMES[view].sight == FRAMES[looks].sight for one in ones]
+    if other := next((one for one in its if all(abs(times * one.radius - radius) > OF_ONE * tolerance for radius in shown)), None):
+        raise Refused(f"no view shows its {other}")
+
+
 def corners_of(one: Round, there: Callable[[Place], Place]) -> Iterator[Corner]:
     """The centre and the corner of each quarter of a round, in other coordinates."""
     return ((there(it.centre), there(it.corner)) for it in one.quarters)

@@ -358,8 +358,9 @@ class Reader(NamedTuple):
         groups = [*self.part.views.values(), *(it.group for it in self.cuts)]
         times = times_of(cut.why.labels[0][1], self.sheet, self.times)
         lines, area = shown_in(cut.group, groups, self.sheet, times, tolerance)
-        section = upright(CutView(letter, plane, cut.group, lines, area), self.part)
         its = section_rounds.within(cut.group, self.sheet.arcs, tolerance)
+        section_rounds.check_radii(its, times, plane.looks, self.part.rounds, tolerance)
+        section = upright(CutView(letter, plane, cut.group, lines, area), self.part)
         section_rounds.check_shown(its, lambda place: section.place(place, times), plane.looks, self.part.views, self.part.rounds, tolerance)
         return section
 

@@ -258,9 +258,9 @@ class Hatcher:
         elif kind == "patterns":
             for number, (i, j) in enumerate(sorted(self.area)):
                 self.hatch([[(i, j), (i + 1, j), (i + 1, j + 1), (i, j + 1)]], ("ANSI31", "ANSI32")[number % 2])
-        elif kind == "bent":
+        elif kind in ("bent", "round"):
             (x, y), _ = self.place((0.5, 0.5)), None
-            self.space.add_hatch(color=3).paths.add_edge_path().add_arc((x, y), 0.4, 0, 360)
+            self.space.add_hatch(color=3).paths.add_edge_path().add_arc((x, y), 0.4, 0, 360 if kind == "round" else 300)
 
     def hatch(self, paths: list[list[tuple[int, int]]], pattern: str = "ANSI31") -> None:
         hatch = self.space.add_hatch()
