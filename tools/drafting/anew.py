@@ -15,7 +15,7 @@ from . import curves, noted
 from .bodies import read_back
 from .cad import FreeCAD, load, save
 from .compared import SHARP, SMOOTH, Projected, ends_of, projected
-from .documents import TAKEN, Page, View, check_options
+from .documents import TAKEN, Cut, Page, View, check_options
 from .drawing import Place, places_of
 from .messages import Refused, many
 from .noted import Note, Tell
@@ -174,7 +174,7 @@ def placed(shape: Any, page: Page) -> Any:
 def saved(page: Page, notes: Sequence[Note], folder: str) -> str:
     """Keeps a page in a folder, and answers the file that stands for it."""
     save(page.part, str(pathlib.Path(folder, PART)), "mm")
-    text = {"label": page.label, "views": page.views, "frame": [tuple(it) for it in page.frame], "outer": page.outer.toMatrix().A,
+    text = {"label": page.label, "views": page.views, "cuts": page.cuts, "frame": [tuple(it) for it in page.frame], "outer": page.outer.toMatrix().A,
             "notes": list(map(dataclasses.asdict, notes))}
     path = pathlib.Path(folder, TAKEN)
     path.write_text(json.dumps(text))
@@ -185,10 +185,10 @@ def taken_in(path: str) -> tuple[Page, list[Note]]:
     """A page that was kept, and what was told of it."""
     try:
         told = json.loads(pathlib.Path(path).read_text())
-        views = tuple(View(*it) for it in told["views"])
+        views, cuts = tuple(View(*it) for it in told["views"]), tuple(Cut(*it) for it in told["cuts"])
         frame = tuple(FreeCAD.Vector(*it) for it in told["frame"])
         outer = FreeCAD.Placement(FreeCAD.Matrix(*told["outer"]))
         notes = [Note(**it) for it in told["notes"]]
     except (ValueError, KeyError, TypeError):
         raise Refused(f"{path} isn't what FreeCAD's window keeps of a page") from None
-    return Page(told["label"], views, (frame[0], frame[1], frame[2]), load(str(pathlib.Path(path).with_name(PART))), outer), notes
+    return Page(told["label"], views, (frame[0], frame[1], frame[2]), load(str(pathlib.Path(path).with_name(PART))), outer, cuts=cuts), notes

@@ -27,10 +27,21 @@ class View(NamedTuple):
     has_smooth: bool
 
 
+class Cut(NamedTuple):
+    """A section of a page: the letter at its line, its own label, the view that looks as it does, where its plane lies along the drawing's axis in
+    which that looks, as the document has it, and whether it shows the area that it cuts."""
+
+    letter: str
+    label: str
+    looks: str
+    at: float
+    has_area: bool
+
+
 class Page(NamedTuple):
     """What is taken of a page: its label, its views, the document's directions along which the drawing's x, y and z go, the solids as the
     views show them, and what places these in the document, where something holds them. Where it was drawn the solids are one part, and the
-    drawing's least corner is known, along x, y and z."""
+    drawing's least corner is known, along x, y and z. And its sections."""
 
     label: str
     views: tuple[View, ...]
@@ -38,6 +49,7 @@ class Page(NamedTuple):
     part: Any
     outer: Any
     least: tuple[float, float, float] = (0.0, 0.0, 0.0)
+    cuts: tuple[Cut, ...] = ()
 
     @property
     def lacking(self) -> list[View]:

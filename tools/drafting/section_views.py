@@ -20,8 +20,9 @@ from .advice import Advisable, GetsFurther, InTheWay
 from .areas import Hatch, Segment, area_of, distinct
 from .controls import option
 from .cutting import Mark, Word, corners_of, is_head, words_of
+from .documents import Page
 from .drawing import Place, Stroke, number, pairs
-from .groups import Group, united
+from .groups import Group, group_of, united
 from .messages import Refused, many
 from .noted import Tell
 from .panels import FRAMES
@@ -55,8 +56,8 @@ class NotRead(Advisable):
 
 
 class CutView(NamedTuple):
-    """A section of a sheet: its letter and label, its group, the plane, its solid lines and the outline of its area, as drawn; and how it was turned
-    and then moved to be a view of the part."""
+    """A section of a sheet: its letter and label, its group, the plane, its solid lines and the outline of its area, as drawn; how it was turned and
+    then moved to be a view of the part; and whether all that is seen of the part behind the plane is known to be drawn."""
 
     letter: str
     plane: Plane
@@ -65,11 +66,12 @@ class CutView(NamedTuple):
     area: list[Segment]
     turns: int = 0
     moved: Place = (0.0, 0.0)
+    is_whole: bool = False
 
     @property
     def is_outline(self) -> bool:
-        """Whether it shows the outline of its area alone."""
-        return bool(self.area) and abs(length_of(self.lines) - length_of(self.area)) < 1e-6 * length_of(self.lines)
+        """Whether it shows the outline of its area alone, as a removed section does."""
+        return bool(self.area) and not self.is_whole and abs(length_of(self.lines) - length_of(self.area)) < 1e-6 * length_of(self.lines)
 
     def layers(self) -> dict[str, list[Segment]]:
         """Its lines by the kinds of their layers."""
@@ -404,7 +406,7 @@ def layers_of(
             tell(noted.left_out(f"a section, {which}since {cut.why}; it has no label A-A, which tells its plane: {cut.group}"))
         cuts = []
     reader = Reader(sheet, marks, part, times, cuts, unlike)
-    sections = [reader.checked(cut) for cut in cuts]
+    sections = [*(reader.checked(cut) for cut in cuts), *(of_page(sheet.page, part, tell) if sheet.page else ())]
     measure = fine_enough([it.plane for it in sections], part, measure)
     layers: dict[str, list[Segment]] = {}
     for section in sections:
@@ -415,6 +417,22 @@ def layers_of(
         told(section, list(its), part, measure, tell)
     letters = {name: section.letter for section in sections for name in named(section, part, measure, placed.mirrored)}
     return Layers(dict(stood(layers, placed, measure)), measure, letters)
+
+
+def of_page(page: Page, part: Part, tell: Tell) -> Iterator[CutView]:
+    """The sections of a page of FreeCAD. One that isn't read is left out, which is told: a page shows nothing of another part in it."""
+    from . import page_sections  # which stands on FreeCAD
+    for cut in page.cuts:
+        try:
+            runs, area = page_sections.drawn(page, cut, part.tolerance)
+            plane = Plane("", False, cut.looks, cut.at - page.least[FRAMES[cut.looks].sight])
+            gap_of(plane, part)
+            section = fitted(CutView(cut.letter, plane, group_of(runs), [segment_of(run, 1.0) for run in runs], area, is_whole=True), turned, 0, part)
+            if section is None:
+                raise Refused("its coordinates aren't those of the views")
+            yield section
+        except Refused as why:
+            tell(noted.left_out(f"section {cut.label} of page {page.label}: {why}"))
 
 
 def named(section: CutView, part: Part, measure: Measure, is_mirrored: bool) -> dict[str, list[Segment]]:

@@ -442,7 +442,7 @@ def draw_straight(path: str | None, sheet: Sheet, marks: Sequence[Mark], argumen
     placed = checked_views(path, sheet, sheet.edges, marks, arguments, tell)
     times = scale_in_use(path, sheet, placed, arguments, tell)
     measure = measured(path, placed, times, arguments, tell)
-    if not placed.sections:
+    if not placed.sections and not (sheet.page and sheet.page.cuts):
         return drawn_views(path, sheet, placed, times, measure, arguments, tell)
     layers = section_views.layers_of(sheet, marks, placed, times, measure, arguments, tell)
     return drawn_views(path, sheet, placed, times, layers.measure, arguments, tell, layers.comments, layers.strokes)

@@ -410,6 +410,8 @@ def layers_of(
     found: Found, reading: Reading, corners: Sequence[chamfers.Squared], squares: Squares, placed: Placed, times: Fraction, measure: Measure, tell: Tell
 ) -> section_views.Layers:
     """The layers of a sheet's sections, squared off."""
+    for cut in found.sheet.page.cuts if found.sheet.page else ():
+        tell(noted.left_out(f"section {cut.label}: of a page with rounds or oblique edges sections aren't read"))
     if not placed.sections:
         return section_views.Layers({}, measure, {})
     its: dict[str, list[Round]] = defaultdict(list)

@@ -14,7 +14,7 @@ from typing import Any, NamedTuple
 from . import noted
 from .cad import FreeCAD, Part
 from .controls import option
-from .documents import Page, View, check_file
+from .documents import Cut, Page, View, check_file
 from .drawing import FURTHER, VIEWS
 from .messages import Refused, many
 from .noted import Tell
@@ -22,10 +22,10 @@ from .noted import Tell
 # How far from square directions may be, and from one another.
 NEAR = 1e-6
 VIEW_TYPES = ("TechDraw::DrawViewPart", "TechDraw::DrawViewPartPython", "TechDraw::DrawProjGroupItem")
-GROUP, PAGE = "TechDraw::DrawProjGroup", "TechDraw::DrawPage"
+GROUP, PAGE, SECTION = "TechDraw::DrawProjGroup", "TechDraw::DrawPage", "TechDraw::DrawViewSection"
 # What else stands on pages, in words.
 OTHERS = {
-    "DrawViewSection": "section, which isn't read", "DrawComplexSection": "section, which isn't read", "DrawViewDetail": "detail",
+    "DrawComplexSection": "section of several planes, which isn't read", "DrawViewDetail": "detail",
     "DrawViewDimension": "dimension", "DrawViewBalloon": "balloon", "DrawViewAnnotation": "annotation", "DrawViewClip": "clip group",
 }
 # The direction towards the viewer of each view: along which axis of the frame, and which way.
@@ -91,11 +91,18 @@ def sources_of(view: Any) -> list[Any]:
     return [*view.Source, *view.XSource]
 
 
+def views_on(page: Any) -> list[Any]:
+    """All that stands on a page, the views of groups each by itself."""
+    return [one for it in page.Views for one in (it.Views if it.TypeId == GROUP else [it])]
+
+
 def by_parts(page: Any, tell: Tell) -> dict[tuple[str, ...], list[Any]]:
     """The views of a page by what they show."""
     parts: dict[tuple[str, ...], list[Any]] = defaultdict(list)
     left: Counter[str] = Counter()
-    for view in [one for it in page.Views for one in (it.Views if it.TypeId == GROUP else [it])]:
+    for view in views_on(page):
+        if view.TypeId == SECTION:
+            continue
         if view.TypeId not in VIEW_TYPES:
             kind = view.TypeId.rpartition("::")[2]
             left[OTHERS.get(kind, kind)] += 1
@@ -196,6 +203,35 @@ def named(square: Sequence[Looking]) -> tuple[Frame, dict[str, Looking]]:
     return frame, {name: names[name] for name in (*VIEWS, *FURTHER) if name in names}
 
 
+# ---- the sections
+
+def cuts_of(page: Any, sources: Sequence[Any], frame: Frame, tell: Tell) -> tuple[Cut, ...]:
+    """The sections of a part on a page. What is left out is told."""
+    found = []
+    for it in views_on(page):
+        try:
+            found += [cut_of(it, sources, frame)] if it.TypeId == SECTION else []
+        except Refused as why:
+            tell(noted.left_out(f"section {it.Label} of page {page.Label}, {why}"))
+    return tuple(found)
+
+
+def cut_of(section: Any, sources: Sequence[Any], frame: Frame) -> Cut:
+    """A section; refused with why it isn't read. TechDraw cuts off what lies where the normal of the plane points."""
+    normal, towards, origin = (FreeCAD.Vector(it) for it in (section.SectionNormal, section.Direction, section.SectionOrigin))
+    if {it.Name for it in sources_of(section)} != {it.Name for it in sources}:
+        raise Refused("which is of something else")
+    if normal.Length < NEAR or towards.Length < NEAR or normal.normalize().dot(towards.normalize()) < 1 - NEAR:
+        raise Refused("which doesn't look straight at its plane from what is cut off")
+    if not are_same(outer_of(sources, noted.tell_none), FreeCAD.Placement()):
+        raise Refused("whose part something else holds")
+    looks = next((name for name, (axis, sign) in TOWARDS.items() if (frame[axis] * sign).dot(normal) > 1 - NEAR), None)
+    if looks is None:
+        raise Refused("which looks aslant")
+    return Cut(str(section.SectionSymbol or section.Label), str(section.Label), looks, frame[TOWARDS[looks][0]].dot(origin),
+               section.CutSurfaceDisplay != "Hide")
+
+
 # ---- the part
 
 def outer_of(sources: Sequence[Any], tell: Tell) -> Any:
@@ -266,7 +302,7 @@ def taken(page: Any, part: str | None, tell: Tell) -> tuple[Page, dict[str, Look
             tell(noted.left_out(f"{many(count, 'line')} that somebody added to {it}", count, name))
         its.append(View(name, str(it), bool(it.of.HardHidden), bool(it.of.SmoothVisible)))
     sources = sources_of(views[0])
-    result = Page(str(page.Label), tuple(its), frame, *solids_of(sources, tell))
+    result = Page(str(page.Label), tuple(its), frame, *solids_of(sources, tell), cuts=cuts_of(page, sources, frame, tell))
     if result.lacking:
         tell(noted.warning(f"page {page.Label} doesn't show hidden lines in {', '.join(it.label for it in result.lacking)}: what is said "
                            "is of the page with them"))

@@ -112,6 +112,17 @@ class Document:
         tell(view, told)
         return view
 
+    def section(self, page: Any, base: Any, normal: Sequence[float], origin: Sequence[float], letter: str = "A", **told: object) -> Any:
+        """A section of what a view shows, which looks straight at its plane from what is cut off, unless something else is told."""
+        section = self.add("TechDraw::DrawViewSection", "Section")
+        page.addView(section)
+        section.BaseView, section.Source, section.SectionNormal, section.SectionOrigin = base, base.Source, vector(normal), vector(origin)
+        section.Direction, section.XDirection = vector(normal), vector((0, 1, 0) if normal[0] else (1, 0, 0))
+        section.SectionSymbol, section.ScaleType, section.Scale = letter, "Custom", 1
+        for name, value in told.items():
+            setattr(section, name, value)
+        return section
+
     def saved(self, folder: str, name: str = "made") -> pathlib.Path:
         """Saves and closes it."""
         self.doc.recompute()

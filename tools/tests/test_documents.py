@@ -1,6 +1,7 @@
 """Pages in documents of FreeCAD, as `draft` reads them: the part of the document is listed, where it stands there, and what can't be read is
 refused by its cause. Among them are the traps that such documents set."""
 import argparse
+import math
 import pathlib
 import random
 import tempfile
@@ -10,7 +11,9 @@ from collections.abc import Callable
 from typing import Any, NamedTuple
 
 from drafting import asking, left_open, noted
+from drafting.drawing import lines_within
 from drafting.messages import Refused
+from drafting.section_layers import strokes_in_all
 
 from .parts import Box, boxes_of, cells_of
 from .support import TOOLS, draft, in_words, needs_long, needs_program
@@ -179,6 +182,21 @@ def with_a_section(one: "Document") -> Any:
     return feature.Shape
 
 
+def with_sections(one: "Document", shape: Any, *cuts: tuple[tuple[float, ...], tuple[float, ...]]) -> list[Any]:
+    """A page with three views of a part and some sections by their normals and places; these."""
+    page = one.page()
+    group = one.group(page, [one.feature(shape)])
+    one.doc.recompute()
+    return [one.section(page, group.Anchor, *cut, letter) for letter, cut in zip("ABCDEF", cuts)]
+
+
+def sectioned(shape: Any, *cuts: tuple[tuple[float, ...], tuple[float, ...]]) -> Make:
+    def make(one: "Document") -> Any:
+        with_sections(one, shape, *cuts)
+        return shape
+    return make
+
+
 def with_a_hole(one: "Document") -> Any:
     shape = box(40, 30, 10).fuse(box(10, 30, 20)).cut(Part.makeCylinder(5, 10, documents.vector((25, 15, 0)))).removeSplitter()
     return in_a_group(one, shape)
@@ -205,7 +223,12 @@ LISTED: dict[str, tuple[Make, tuple[str, ...], str]] = {
     "lengths in thirds, far from the middle": (
         lambda one: in_a_group(one, box(10, 10 / 3, 20 / 3, 1234.5, -99).cut(box(10 / 3, 10 / 3, 10 / 3, 1234.5, -99))), (), "lengths multiplied by 3"),
     "a spreadsheet": (by_a_spreadsheet, (), ""),
-    "a section and a dimension": (with_a_section, (), "left out: 1 section, which isn't read|Dimension says 99 in words of its own"),
+    "a section and a dimension": (with_a_section, (), "left out: section Section of page Page, which doesn't look straight at its plane from what is cut off|Dimension says 99 in words of its own"),
+    "sections upon a face and aslant": (lambda one: sectioned(corner(), ((0, -1, 0), (5, 10, 5)), ((1, 1, 0), (5, 5, 5)))(one), (),
+                                        "its plane lies upon a face of the part, at y = 10|section Section001 of page Page, which looks aslant"),
+    "a section of a part with a hole": (
+        lambda one: sectioned(box(40, 30, 10).cut(Part.makeCylinder(5, 10, documents.vector((25, 15, 0)))), ((0, -1, 0), (0, 15, 0)))(one), (),
+        "section Section: of a page with rounds or oblique edges sections aren't read"),
     "coarse lines, isolines and smooth ones": (
         lambda one: in_a_group(one, corner(), CoarseView=True, IsoVisible=True, IsoCount=3, SmoothHidden=True), (), ""),
     "a hole": (with_a_hole, (), "1 circle or round squared off"),
@@ -295,6 +318,26 @@ class Pages(unittest.TestCase):
         self.assertEqual((it.solids, len(it.part)), (3, 1))
         it = of_made(lambda one: in_a_group(one, quartered(), ("Top", "Right", "Left")))
         self.assertEqual((it.solids, len(it.part)), (2, 1))
+
+    def test_a_section_of_the_quartered_cube(self) -> None:
+        it = of_made(sectioned(quartered(), ((0, -1, 0), (10, 15, 10))))
+        self.assertEqual((it.solids, len(it.part)), (1, 1), it.said)
+        self.assertIn("SECTION A-A is what FRONT shows behind y = 15: layers SECTION_FRONT_15, AREA_FRONT_15", "\n".join(it.said))
+
+    def test_sections_are_as_techdraw_draws_them(self) -> None:
+        """Of each of six ways to look at a part within it."""
+        ways = ((0, -1, 0), (0, 1, 0), (1, 0, 0), (-1, 0, 0), (0, 0, 1), (0, 0, -1))
+        with tempfile.TemporaryDirectory() as folder:
+            one = Document()
+            its = with_sections(one, corner(), *((way, (15, 15, 15)) for way in ways))
+            one.doc.recompute()
+            lengths = [sum(edge.Length for edge in section.getVisibleEdges()) for section in its]
+            ended = draft("sheet", one.saved(folder))
+        self.assertEqual(ended.status, 0, ended.said)
+        drawn = {name: sum(math.dist(start, end) for _, start, end in strokes)
+                 for name, strokes in strokes_in_all(lines_within(ended.out.encode()), 0, True).items() if name.startswith("SECTION")}
+        names = [f"SECTION_{view}_15" for view in ("FRONT", "REAR", "SIDE", "LEFT", "TOP", "BOTTOM")]
+        self.assertEqual({name: round(drawn.get(name, 0)) for name in names}, {name: round(length) for name, length in zip(names, lengths)}, ended.said)
 
     def test_random_parts(self) -> None:
         self.some(RANDOM)
