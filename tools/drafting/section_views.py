@@ -32,7 +32,7 @@ from .reading import HATCHES, SCALE, Edge, Kept, Sheet, Source
 from .rounds import OF_ONE
 from .section_layers import Section
 from .section_rounds import Rounds
-from .sections import Cut, hatch_lines, holding, is_dot, lies_across, sides_of
+from .sections import Cut, are_told, hatch_lines, holding, is_dot, lies_across, sides_of
 from .straight import MOST_DECIMALS, Measure, Run
 
 # What a left view is called where it stands for SIDE, and all views are drawn in a mirror.
@@ -400,7 +400,7 @@ def layers_of(
     """The layers of the sections beside the views. Each is told; where no cutting-plane line and no label tells of a plane they are left out.
     Refused where a section can't be read, also since what is squared off of the sheet is shown otherwise by one."""
     part, cuts = part_of(placed, rounds, arguments.tolerance), in_one(placed.sections)
-    if not marks and not any(cut.why.labels for cut in cuts):
+    if not are_told(cuts, marks):
         for cut in cuts:
             which = f"group {cut.number}, " if cut.number else ""
             tell(noted.left_out(f"a section, {which}since {cut.why}; it has no label A-A, which tells its plane: {cut.group}"))

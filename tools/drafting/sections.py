@@ -70,6 +70,11 @@ class Cut(NamedTuple):
         return f"group {self.number}, {self.group}" if self.number else str(self.group)
 
 
+def are_told(cuts: Sequence[Cut], marks: Sequence[Mark]) -> bool:
+    """Whether a cutting-plane line or a label tells a plane of some sections, so that they are read; else they are left out."""
+    return bool(marks) or any(cut.why.labels for cut in cuts)
+
+
 # What tells which of all groups are sections, by their numbers from 0 on, and why; it knows which ones the user leaves out, and None where
 # names tell the views, so that groups have no numbers.
 TellSections = Callable[[Sequence[Group], Sequence[Group] | None], dict[int, Why]]

@@ -21,6 +21,7 @@ from .panels import FRAMES
 from .placing import Placed
 from .reading import Arc, Box, Edge, Sheet, Unread, thing_of, where
 from .rounds import OF_ONE, Move, Round, Squares, arc_box, box_of, is_straight
+from .sections import are_told
 from .straight import Measure, Run, runs_of
 from .tangent import Reading, Views
 from .two_exports import arcs_hidden_by, twice_hidden
@@ -165,7 +166,8 @@ def read(path: str | None, read_sheet: Sheet, marks: Sequence[Mark], arguments: 
     views = Views({view: group.box for view, group in placed.views.items()}, edges, [], tolerance, placed.mirrored)
     oblique, causes = chamfers.chamfers_of(views, round_ones.flanks)
     refuse_oblique(path, placed, [*round_ones.flanks, *(edge for one in oblique for edge in one.edges)], lambda edge: not_taken(causes.get(edge)))
-    cut = [arc for arc in kept if any(meet(it.group.box, arc_box(arc), tolerance) for it in placed.sections)]
+    sections = placed.sections if are_told(placed.sections, marks) else ()
+    cut = [arc for arc in kept if any(meet(it.group.box, arc_box(arc), tolerance) for it in sections)]
     for arc in kept:
         if not any(holds(group.box, arc_box(arc), OF_ONE * tolerance) for group in placed.views.values()) and not any(arc is it for it in cut):
             left.append(arc)

@@ -59,7 +59,7 @@ class RoundMaker(Maker):
         ends = [a + b for a, b in zip([*low, *high], [*self.least, *self.least])]
         return read_back(self.shape.common(box(*ends)))
 
-    def section(self, form: Form, uncut: Any = ()) -> None:
+    def section(self, form: Form, uncut: Any = (), is_mirrored: bool = False) -> None:
         """What a plane leaves of the part, drawn to the right of all, hatched and with its label."""
         frame, left = FRAMES[form.looks], self.cut(form)
         x, y = self.draw(left, form.looks, (self.right, self.places["FRONT"][1]), SEEN)
