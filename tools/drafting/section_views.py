@@ -424,9 +424,9 @@ def of_page(page: Page, part: Part, tell: Tell) -> Iterator[CutView]:
     from . import page_sections  # which stands on FreeCAD
     for cut in page.cuts:
         try:
-            runs, area = page_sections.drawn(page, cut, part.tolerance)
             plane = Plane("", False, cut.looks, cut.at - page.least[FRAMES[cut.looks].sight])
             gap_of(plane, part)
+            runs, area = page_sections.drawn(page, cut, part.tolerance)
             section = fitted(CutView(cut.letter, plane, group_of(runs), [segment_of(run, 1.0) for run in runs], area, is_whole=True), turned, 0, part)
             if section is None:
                 raise Refused("its coordinates aren't those of the views")

@@ -225,10 +225,10 @@ LISTED: dict[str, tuple[Make, tuple[str, ...], str]] = {
     "a spreadsheet": (by_a_spreadsheet, (), ""),
     "a section and a dimension": (with_a_section, (), "left out: section Section of page Page, which doesn't look straight at its plane from what is cut off|Dimension says 99 in words of its own"),
     "sections upon a face and aslant": (lambda one: sectioned(corner(), ((0, -1, 0), (5, 10, 5)), ((1, 1, 0), (5, 5, 5)))(one), (),
-                                        "its plane lies upon a face of the part, at y = 10|section Section001 of page Page, which looks aslant"),
+                                        "its plane lies upon a face of the part, at y = 10|left out: section|which looks aslant"),
     "a section of a part with a hole": (
         lambda one: sectioned(box(40, 30, 10).cut(Part.makeCylinder(5, 10, documents.vector((25, 15, 0)))), ((0, -1, 0), (0, 15, 0)))(one), (),
-        "section Section: of a page with rounds or oblique edges sections aren't read"),
+        ": of a page with rounds or oblique edges sections aren't read"),
     "coarse lines, isolines and smooth ones": (
         lambda one: in_a_group(one, corner(), CoarseView=True, IsoVisible=True, IsoCount=3, SmoothHidden=True), (), ""),
     "a hole": (with_a_hole, (), "1 circle or round squared off"),
