@@ -252,8 +252,8 @@ def squared(found: Found, reading: Reading, corners: Sequence[chamfers.Squared])
     squares.doubts.extend(chamfers.doubts_of(corners, [it for it in lines if is_straight(it, OF_ONE * found.tolerance)], its, found.tolerance))
     squares.doubts.extend(f"a {it.one} may end where another line goes across" for it in found.holes if it.is_open)
     squares.doubts.extend([] if found.has_all_corners else [f"its oblique edges may be squared off in more than {chamfers.MOST} ways"])
-    cut = rounds.Squaring(in_sections, rounds.rounds_of(found.cut, found.tolerance), found.tolerance, False).done().edges
-    return lines, squares._replace(edges=[*squares.edges, *cut])
+    of_sections = rounds.Squaring(in_sections, rounds.rounds_of(found.cut, found.tolerance), found.tolerance, False).done()
+    return lines, squares._replace(edges=[*squares.edges, *of_sections.edges])
 
 
 def apart(edges: Sequence[Edge], found: Found) -> tuple[list[Edge], list[Edge]]:
