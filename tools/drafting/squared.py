@@ -13,6 +13,7 @@ from typing import NamedTuple
 from . import chamfers, cones, given, holes, noted, rounds, section_views, sheet, tangent, unconfirmed
 from .cutting import Mark
 from .drawing import VIEWS, Place
+from .exports import arcs_hidden_by, twice_hidden
 from .given import Cone, Given, Stretch
 from .groups import Group, frames, holds, meet, merged, pieces_of
 from .messages import Refused, many
@@ -249,6 +250,7 @@ def squared(found: Found, reading: Reading, corners: Sequence[chamfers.Squared])
     squares = rounds.Squaring(given_edges, its, found.tolerance, reading.is_eager).done()
     if cut := [it for it in squares.moves if it.one.cuts or reading.is_eager]:
         squares = rounds.Squaring(remapped(given_edges, cut, found), its, found.tolerance, reading.is_eager).done()
+    squares = squares._replace(edges=tangent.without(squares.edges, [(it, True) for it in reading.contacts], found.tolerance))
     squares.doubts.extend(chamfers.doubts_of(corners, [it for it in lines if is_straight(it, OF_ONE * found.tolerance)], its, found.tolerance))
     squares.doubts.extend(f"a {it.one} may end where another line goes across" for it in found.holes if it.is_open)
     squares.doubts.extend([] if found.has_all_corners else [f"its oblique edges may be squared off in more than {chamfers.MOST} ways"])
@@ -399,6 +401,9 @@ def drawn(found: Found, reading: Reading, corners: Sequence[chamfers.Squared], n
         way = "upright" if stretch.is_upright else "level"
         tell(noted.left_out(f"in {stretch.view} the {way} line at {stretch.at:.6g} from {stretch.low:.6g} to {stretch.high:.6g}, taken as a tangent edge",
                             view=stretch.view))
+    for stretch in reading.contacts:
+        tell(noted.changed("in {} the {} line from {:.6g}, {:.6g} to {:.6g}, {:.6g} taken as where a round touches a wall of its own height".format(
+            stretch.view, "upright" if stretch.is_upright else "level", *stretch.edge().start, *stretch.edge().end), view=stretch.view))
     for text in squares.doubts[:MOST_TOLD]:
         tell(noted.warning(f"{text}: other solids may be missed"))
     if len(squares.doubts) > MOST_TOLD:
@@ -455,7 +460,8 @@ def drawings(found: Found) -> Iterator[sheet.Alike]:
     """The drawings of a sheet by its readings, the likeliest first, or why one has none."""
     views = found.views(rounds.rounds_of(found.arcs, found.tolerance))
     # Of a page no smooth edge is drawn.
-    its, count = tangent.readings([] if found.sheet.page else [*tangent.candidates(views), *found.cones.seams], tangent.kinds_of(views.rounds))
+    smooth = [] if found.sheet.page else [*tangent.candidates(views), *found.cones.seams]
+    its, count = tangent.readings(smooth, tangent.kinds_of(views.rounds), [it for *_, it in tangent.contacts(views)])
     only = found.arguments.reading
     ways = len(found.corners)
     if only is not None and not 1 <= only <= len(its) * ways:

@@ -24,12 +24,14 @@ MOST_PLAIN, MOST_EAGER, MOST_INNER, MOST_SPANS, MOST = 120, 20, 40, 8, 250
 
 class Reading(NamedTuple):
     """Which stretches are left out of a sheet, each alone or with what lies under it; whether all ends of lines on rounds are moved to
-    the squares; of which rounds the quarters are squared off to their centres; and between which places these are given smooth edges."""
+    the squares; of which rounds the quarters are squared off to their centres; between which places these are given smooth edges; and
+    where rounds touch walls of their own height."""
 
     left: Left = ()
     is_eager: bool = False
     inner: tuple[Owner, ...] = ()
     span: int | None = None
+    contacts: tuple[Stretch, ...] = ()
 
 
 class Views(NamedTuple):
@@ -147,6 +149,31 @@ def crossing(side: Side, at: float, tolerance: float) -> list[float]:
             and span_of(it, 1 - way)[0] - noise <= at <= span_of(it, 1 - way)[1] + noise]
 
 
+# ---- where rounds touch walls
+
+def contacts(views: Views) -> Iterator[tuple[str, Round, Stretch]]:
+    """The sides of rounds' squares, by the views and the rounds, along which a line lies from end to end, and no border of the view: there a
+    boss may touch a wall of its own height, whose edge the squared-off boss hasn't."""
+    lines, noise = {view: within(views, view) for view in views.boxes}, OF_ONE * views.tolerance
+    for view, one in views.rounds:
+        box, (x, y) = views.boxes[view], one.centre
+        for needed, is_upright, sign in (((0, 3), True, 1), ((1, 2), True, -1), ((0, 1), False, 1), ((2, 3), False, -1)):
+            across, along = (x, y) if is_upright else (y, x)
+            at, low, high = across + sign * one.radius, along - one.radius, along + one.radius
+            is_border = min(abs(at - box[side]) for side in ((0, 2) if is_upright else (1, 3))) <= BESIDE * views.tolerance
+            on = [edge for edge in lines[view] if is_level(edge) != is_upright and abs(edge.start[0 if is_upright else 1] - at) <= noise]
+            if set(needed) <= set(one.numbers) and not is_border and covered(on, is_upright, low, high, noise):
+                over = [edge.hidden for edge in on if span_of(edge, is_upright)[0] <= along <= span_of(edge, is_upright)[1]]
+                yield view, one, Stretch(view, is_upright, at, low, high, all(over))
+
+
+def covered(edges: Iterable[Edge], is_upright: bool, low: float, high: float, noise: float) -> bool:
+    """Whether edges of one line cover a stretch of it."""
+    for a, b in sorted(span_of(edge, is_upright) for edge in edges):
+        low = max(low, b) if a <= low + noise else low
+    return low >= high - noise
+
+
 # ---- lines without some stretches
 
 def without(edges: Sequence[Edge], left: Iterable[tuple[Stretch, bool]], tolerance: float) -> list[Edge]:
@@ -231,11 +258,19 @@ def with_spans(found: Sequence[Stretch], kinds: Sequence[Owner]) -> Iterator[Rea
             yield Reading(tuple((it, False) for it in solid if not it.owners & set(some)), inner=some, span=span)
 
 
-def readings(found: Sequence[Stretch], kinds: Sequence[Owner]) -> tuple[list[Reading], int]:
+def with_contacts(plain: Sequence[Left], touching: Sequence[Stretch]) -> Iterator[Reading]:
+    """Readings in which rounds touch no wall of their own height, or walls at all these stretches; and then at some of them."""
+    ways = dict.fromkeys(((), tuple(touching)))
+    yield from (Reading(left, contacts=some) for left in plain for some in ways)
+    yield from (Reading(left, contacts=some) for left in plain for some in subsets(touching, 4) if some not in ways)
+
+
+def readings(found: Sequence[Stretch], kinds: Sequence[Owner], touching: Sequence[Stretch]) -> tuple[list[Reading], int]:
     """All readings that are tried, the likeliest first; and how many of them but leave lines out. The others change more, and are tried where
     nothing comes of those."""
-    plain = list(each_once(lefts(found), MOST_PLAIN))
-    many: list[Reading] = [*map(Reading, plain), *(Reading(left, True) for left in plain[:MOST_EAGER])]
+    lines = list(each_once(lefts(found), MOST_PLAIN))
+    plain = list(itertools.islice(with_contacts(lines, touching), MOST_PLAIN))
+    many: list[Reading] = [*plain, *(Reading(left, True) for left in lines[:MOST_EAGER])]
     many += [*itertools.islice(with_inner(found), MOST_INNER), *with_spans(found, kinds)]
     return many[:MOST], len(plain)
 

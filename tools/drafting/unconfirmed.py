@@ -4,9 +4,10 @@ it is at its other sides. A curve is suspected, the more so the earlier it stand
 
 1. some of these lines isn't drawn at all, or all of them over no stretch in common: then there is no layer in which it stands free;
 2. a wall cuts it, or it ends within a quarter;
-3. some of these lines are drawn over a part alone of how far the others go.
+3. some of these lines are drawn over a part alone of how far the others go;
+4. in its own view a line goes along a whole side of its square: it may touch a wall.
 
-2 and 3 may be of a round that stands free in some layers, and that another thing goes over.
+2 to 4 may be of a round that stands free in some layers, and that another thing goes over, or beside which one stands.
 """
 from collections.abc import Iterator, Sequence
 from typing import NamedTuple
@@ -15,11 +16,11 @@ from .drawing import VIEWS
 from .holes import Spans, joined
 from .panels import FRAMES
 from .rounds import OF_ONE, Round
-from .tangent import Views, shared_axis, sides_of, within
+from .tangent import Views, contacts, shared_axis, sides_of, within
 
 
 class Suspect(NamedTuple):
-    """A curve that is suspected: by which of the three, and why, in words."""
+    """A curve that is suspected: by which of the four, and why, in words."""
 
     rank: int
     words: str
@@ -44,6 +45,8 @@ class Outline(NamedTuple):
 def suspects(views: Views) -> list[Suspect]:
     """The curves of the main views that the others don't confirm, the most suspicious first."""
     found = [it for view, one in views.rounds if view in VIEWS for it in suspected(view, one, list(outlines(view, one, views)), views.tolerance)]
+    found += [Suspect(4, "the {} in {}, beside which a line goes from {:.6g}, {:.6g} to {:.6g}, {:.6g}: it may touch a wall there".format(
+        one, view, *it.edge().start, *it.edge().end)) for view, one, it in contacts(views) if view in VIEWS]
     return sorted(found, key=lambda it: it.rank)
 
 

@@ -25,6 +25,11 @@ def undercut() -> Any:
     return box(0, 0, 0, 60, 40, 20).cut(box(0, 14, 0, 60, 26, 8)).cut(cylinder(2, (30, 20), 0, 20, 6))
 
 
+def walled(height: float) -> Any:
+    """A base with a wall, and a boss 15 high that touches it."""
+    return box(0, 0, 0, 60, 40, 10).fuse(box(0, 30, 10, 60, 40, height)).fuse(cylinder(2, (20, 22), 10, 25, 8))
+
+
 class Kept(test_rounds.InAFolder):
     def one(self, shape: Any, volume: str = "") -> None:
         parts.sheet_of(shape, self.file)
@@ -40,6 +45,15 @@ class Kept(test_rounds.InAFolder):
         self.one(tray((10, 25), (70, 40)), "41,376 + 1,002 pi = 44,523.88 mm³")
         # The wall is no higher than the boss' lower half.
         self.one(box(0, 0, 0, 60, 40, 10).fuse(box(0, 30, 10, 60, 40, 18)).fuse(cylinder(2, (20, 22), 10, 25, 8)))
+
+    def test_bosses_that_touch_walls_of_their_own_height(self) -> None:
+        words = "changed: in TOP the level line from 112, 175 to 128, 175 taken as where a round touches a wall of its own height"
+        self.one(walled(25))
+        self.assertIn(words, self.said)
+        self.one(walled(20))
+        self.assertNotIn(words, self.said)
+        # In a corner of two walls: 80 * 50 * 30 - 72 * 42 * 26 + 36 * 26 pi.
+        self.one(box(0, 0, 0, 80, 50, 30).cut(box(4, 4, 4, 76, 46, 30)).fuse(cylinder(2, (10, 10), 4, 30, 6)).removeSplitter(), "41,376 + 936 pi = 44,316.53 mm³")
 
     def test_their_lines_of_contact_drawn_as_smooth_edges(self) -> None:
         parts.sheet_of(tray((10, 25)), self.file, groups=(0, 1, 3, 5, 6, 8))
@@ -60,6 +74,13 @@ class Kept(test_rounds.InAFolder):
         eye = cylinder(1, (20, 20), 0, 16, 20).fuse(box(20, 0, 10, 90, 16, 30)).removeSplitter()
         parts.sheet_of(eye, self.file, rough)
         self.exact(eye)
+
+
+def without_a_step(space: Any, places: dict[str, tuple[float, float]]) -> None:
+    """Leaves out of SIDE the level line 10 above its foot."""
+    y = places["SIDE"][1] + 10
+    for line in [it for it in space.query("LINE") if it.dxf.start.y == it.dxf.end.y == y]:
+        space.delete_entity(line)
 
 
 class Causes(test_rounds.InAFolder):
@@ -90,8 +111,13 @@ class Causes(test_rounds.InAFolder):
         self.assertRegex(ended.out, r"stand free: the circle of radius 5 at 130, 150 \(CIRCLE \w+ on layer 0\) in TOP, whose outline in FRONT at x "
                                     "135 isn't drawn: something cuts it off, or it goes over into what is wider")
 
+    def test_a_curve_beside_which_a_line_goes_is_named(self) -> None:
+        parts.sheet_of(walled(25), self.file, without_a_step)
+        self.assertRegex(draft("solve", self.file).out, r"stand free: the circle of radius 8 at 120, 167 \(\w+ \w+ on layer 0\) in TOP, beside which a "
+                                                        "line goes from 112, 175 to 128, 175: it may touch a wall there")
+
     def test_where_no_curve_is_suspected_that_is_said(self) -> None:
-        parts.sheet_of(box(0, 0, 0, 60, 40, 10).fuse(box(0, 30, 10, 60, 40, 25)).fuse(cylinder(2, (20, 22), 10, 25, 8)), self.file)
+        parts.sheet_of(box(0, 0, 0, 60, 40, 10).fuse(box(0, 30, 10, 60, 40, 25)).cut(cylinder(2, (20, 15), 0, 10, 4)), self.file, without_a_step)
         ended = draft("solve", self.file)
         self.assertIn("No solid is found", ended.out)
         self.assertIn("The cause isn't a curve that the other views don't confirm: ", ended.out)

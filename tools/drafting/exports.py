@@ -1,0 +1,48 @@
+"""Two exports of one sheet, one of them without hidden lines: which arcs are hidden, and which hidden lines lie under visible ones."""
+import itertools
+import math
+from collections.abc import Iterator, Sequence
+
+from .given import Stretch
+from .reading import Arc, Edge
+from .rounds import OF_ONE, are_of_one, is_level, is_straight
+from .tangent import span_of
+
+Row = tuple[bool, float]
+
+
+def arcs_hidden_by(whole: Sequence[Arc], visible: Sequence[Arc], tolerance: float) -> Iterator[Arc]:
+    """The arcs of a sheet, cut where arcs of its export without hidden lines end, and hidden where that one lacks them."""
+    for arc in whole:
+        beside = [it for it in visible if are_of_one(it, arc, tolerance)]
+        noise = math.degrees(1e-3 / arc.radius)
+        offs = [(at - arc.start) % 360 for it in beside if it.sweep < 360 - noise for at in (it.start, it.start + it.sweep)]
+        stops = sorted({0.0, arc.sweep, *(off for off in offs if noise < off < arc.sweep - noise)})
+        for low, high in itertools.pairwise(stops):
+            if high - low > noise:
+                seen = any((arc.start + (low + high) / 2 - it.start) % 360 <= it.sweep for it in beside)
+                yield arc._replace(hidden=not seen, start=(arc.start + low) % 360, sweep=high - low)
+
+
+def tallied(edges: Sequence[Edge], tolerance: float) -> dict[Row, list[tuple[float, float]]]:
+    """From where to where level and upright edges go, by their lines; a drawing's noise is evened out by the first edge of each."""
+    rows: dict[Row, list[tuple[float, float]]] = {}
+    for edge in sorted(edges, key=lambda it: (is_level(it), it.start[1 if is_level(it) else 0])):
+        way = 0 if is_level(edge) else 1
+        at = edge.start[1 - way]
+        last = next(reversed(rows), None)
+        key = last if last and last[0] == bool(way) and abs(last[1] - at) <= OF_ONE * tolerance else (bool(way), at)
+        rows.setdefault(key, []).append(span_of(edge, way))
+    return rows
+
+
+def twice_hidden(whole: Sequence[Edge], visible: Sequence[Edge], tolerance: float) -> Iterator[Edge]:
+    """Hidden lines under visible ones: the whole export has a stretch more often there than the one of visible lines."""
+    straight = [it for it in whole if is_straight(it, OF_ONE * tolerance)]
+    rows, seen = tallied(straight, tolerance), tallied(visible, tolerance)
+    for (upright, at), its in rows.items():
+        others = [it for (way, there), row in seen.items() if way == upright and abs(there - at) <= 2 * OF_ONE * tolerance for it in row]
+        for low, high in itertools.pairwise(sorted({stop for it in [*its, *others] for stop in it})):
+            counts = [sum(a <= (low + high) / 2 <= b for a, b in row) for row in (its, others)]
+            if high - low > OF_ONE * tolerance and counts[0] > counts[1] > 0:
+                yield Stretch("", upright, at, low, high, True).edge()._replace(source=straight[0].source)
