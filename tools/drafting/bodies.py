@@ -127,12 +127,17 @@ def tools_of(found: Sequence[Drawn], unit: int, by_formula: bool) -> tuple[list[
 
 
 def cone_tools(it: Fitted) -> Iterator[Tool]:
-    """What puts a cone back: where it was squared to a step that is wider than it, that is taken back before."""
+    """What puts a cone back, round the narrower of its circles: where it was squared to a step that is wider than it, that is taken back before."""
     cone, height = it.cone, abs(it.end - it.neck)
     foot, way = vector(cone.view, cone.centre, it.neck), vector(cone.view, (0, 0), math.copysign(1, it.end - it.neck))
+    least = min(cone.radius, cone.end_radius)
+
+    def beyond(shape: "Part.Shape") -> "Part.Shape":
+        return shape.cut(Part.makeCylinder(least, height, foot, way)) if least else shape
+
     if cone.end_radius > cone.radius:
-        yield Tool(Part.makeCylinder(cone.end_radius, height, foot, way), not it.is_full)
-    yield Tool(Part.makeCone(cone.radius, cone.end_radius, height, foot, way), it.is_full)
+        yield Tool(beyond(Part.makeCylinder(cone.end_radius, height, foot, way)), not it.is_full)
+    yield Tool(beyond(Part.makeCone(cone.radius, cone.end_radius, height, foot, way)), it.is_full)
 
 
 def put_back(shape: "Part.Shape", hole: Hole) -> "Part.Shape":

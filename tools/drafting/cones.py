@@ -5,7 +5,8 @@ views that see it from its side draw it as two oblique edges. Where
 1. at its neck the cylinder's walls go on; where they go on at its end too, the neck is the narrower one;
 2. the neck's circle is drawn whole, and the end's unless that is a point;
 3. all views that see it from its side draw both edges, inside of the view's other lines;
-4. what the cone is cut from is full as far as its box reaches, or what it is added to empty: nothing else comes into its box,
+4. what the cone is cut from is full as far as its box reaches, or what it is added to empty: nothing else comes into its box, but within
+   the narrower circle, as a bush's bore does,
 
 a point changes no other line, and is taken off; another cone shows what a cylinder of its end's circle shows with the neck's circle at its
 floor, and is *squared to that step*: each oblique edge becomes two lines along its corner; and where walls go on at its end, the line across
@@ -238,14 +239,14 @@ def fitted(cone: Cone, found: Sequence[Drawn], cuts: list[list[int]], is_full: F
     if abs(neck - cone.neck * unit) > NEAR or neck == end:
         return None
     way = 1 if end < neck else -1
-    body = is_full(spot(cone.view, (x, y), neck + way / 2))
-    if not goes_on(cone, cone.radius, found, neck, way, body) or cone.end_radius and not goes_on(cone, cone.end_radius, found, neck, -way, body):
+    body = next((it for it in (True, False) if goes_on(cone, cone.radius, found, neck, way, it)), None)
+    if body is None or cone.end_radius and not goes_on(cone, cone.end_radius, found, neck, -way, body):
         return None
-    half, inner = (radius * unit for radius in (max(cone.radius, cone.end_radius), cone.end_radius))
+    half, inner, least = (radius * unit for radius in (max(cone.radius, cone.end_radius), cone.end_radius, min(cone.radius, cone.end_radius)))
     around = [middles(cuts[axis], round(at - half), round(at + half)) for axis, at in ((frame.right, x), (frame.up, y))]
     for across, up, depth in itertools.product(*around, middles(cuts[frame.sight], min(neck, end), max(neck, end))):
-        is_inside = max(abs(across - x), abs(up - y)) < inner
-        if is_full(spot(cone.view, (across, up), depth)) != (body if is_inside else not body):
+        out = max(abs(across - x), abs(up - y))
+        if out > least and is_full(spot(cone.view, (across, up), depth)) != (body if out < inner else not body):
             return None
     return Fitted(cone, neck / unit, end / unit, body)
 

@@ -77,6 +77,18 @@ class Cones(test_rounds.InAFolder):
         # 100 * 18 + 225 * 10 + 2 * (100 + 80 + 64) / 3.
         self.one(shape, "about 4212.66667 pi = 13,234.48 mm³")
 
+    def test_what_is_hollow(self) -> None:
+        # A bush with a flange, chamfered outside, and a plate with a countersunk boss.
+        bush = cylinder(2, (24, 24), 0, 8, 24).fuse(cylinder(2, (24, 24), 8, 38, 16)).fuse(cone(2, (24, 24), 38, 40, 16, 14))
+        bush = bush.cut(cylinder(2, (24, 24), 0, 40, 10)).removeSplitter()
+        parts.sheet_of(bush, self.file)
+        # 576 * 8 + 256 * 30 + 2 * (256 + 224 + 196) / 3 - 100 * 40.
+        self.one(bush, "about 8738.66667 pi = 27,453.33 mm³")
+        boss = box(0, 0, 0, 60, 40, 10).fuse(cylinder(2, (20, 20), 10, 20, 12)).cut(sunk(2, (20, 20), 20, 0, 5, 8)).removeSplitter()
+        parts.sheet_of(boss, self.file)
+        # 144 * 10 - 25 * 17 - 3 * (25 + 40 + 64) / 3.
+        self.one(boss, "24,000 + 886 pi = 26,783.45 mm³")
+
     def test_a_left_view_and_the_drawing_between(self) -> None:
         from drafting.bodies import turned_round
         parts.sheet_of(drilled_plate(), self.file, views=("FRONT", "TOP", "LEFT"))
