@@ -4,14 +4,16 @@ that corner in the layers where the corner's inside is full, and by filling it w
 
 1. of rounds (`rounds.py`) 1, 2 and 4 hold of the triangle;
 2. at each of its ends S turns in all these layers, since what goes on there goes across the corner's side; or S goes straight on in all of
-   them, and in the view from the side nothing else lies upon the line of the edge that R has there, which is left out.
+   them, or at one of them goes back along the corner's side and beyond it, as a dovetail does, and in the view from the side nothing else
+   lies upon the line of the edge that R has there, which is left out, as that side is.
 
 Then S has the edges that R has in the other views, but for those that are left out: that of the corner lies upon those of the ends. Of 2
-the sheet has to show, at each end, a line across the corner's side or along it, or another chamfer's side; and in both views from the side
+the sheet has to show, at each end, a line across the corner's side or along it, away from it or back, or another chamfer's side; and in both views from the side
 lines along the sight at both ends, which have a stretch in common. Else an edge is refused: it is oblique in more than one view, or goes on
 otherwise. All ways to square the edges of a sheet that this leaves are tried, each with each; where lines or rounds come into a triangle, or
 there are more ways, it is told that other solids may be missed; and each solid is compared with the sheet.
 """
+import enum
 import functools
 import itertools
 import math
@@ -31,6 +33,12 @@ from .tangent import Views, shared_axis, span_of, within, without
 # The most ways to square the oblique edges of a sheet that are tried, and that are looked at.
 MOST, MOST_TRIED = 64, 4096
 Spans = list[tuple[float, float]]
+
+
+class End(enum.IntEnum):
+    """How a wall goes on at an end of a chamfer: across the corner's side, straight on, or back along that side."""
+
+    TURNS, ON, BACK = range(3)
 
 
 class Chamfer(NamedTuple):
@@ -55,12 +63,12 @@ class Chamfer(NamedTuple):
 
 
 class Squared(NamedTuple):
-    """A chamfer, the corner to which it is squared, whether it goes straight on at its ends, on the upright and on the level side of the
-    corner, and the stretches that are left out then."""
+    """A chamfer, the corner to which it is squared, how walls go on at its ends, on the upright and on the level side of the corner, and the
+    stretches that are left out then."""
 
     one: Chamfer
     slant: Slant
-    straight: tuple[bool, bool] = (False, False)
+    ends: tuple[End, End] = (End.TURNS, End.TURNS)
     left: tuple[Stretch, ...] = ()
 
 
@@ -194,8 +202,11 @@ class Ends(NamedTuple):
     others: Sequence[Slant]
     tolerance: float
 
-    def fits(self, slant: Slant, at: int, is_straight_on: bool) -> bool:
-        """Whether something goes straight on, or across, at an end on the upright (0) or on the level side (1) of a corner."""
+    def fits(self, slant: Slant, at: int, end: End) -> bool:
+        """Whether something goes on so at an end on the upright (0) or on the level side (1) of a corner."""
+        if end is End.BACK:
+            return self.goes_back(slant, at)
+        is_straight_on = end is End.ON
         x, y = slant.ends[at]
         sign = -slant.up if at == 0 else -slant.right
         ways = (sign,) if is_straight_on else (-1, 1)
@@ -207,6 +218,14 @@ class Ends(NamedTuple):
                    for other in self.others for side in ([at] if is_straight_on else [1 - at]))
 
 
+    def goes_back(self, slant: Slant, at: int) -> bool:
+        """Whether lines go from an end to its corner and beyond."""
+        sign = slant.up if at == 0 else slant.right
+        (x, y), off = slant.corner, sign * 3 * self.tolerance
+        places = [slant.ends[at], ((slant.ends[at][0] + x) / 2, (slant.ends[at][1] + y) / 2), (x, y + off) if at == 0 else (x + off, y)]
+        return all(any(covers(edge, place, self.tolerance) and is_level(edge) == (at == 1) for edge in self.lines) for place in places)
+
+
 def goes_on(slant: Slant, at: int) -> int:
     """Into which way, upwards or to the right, a side of a corner goes on from its end."""
     return slant.up if at == 0 else slant.right
@@ -214,9 +233,9 @@ def goes_on(slant: Slant, at: int) -> int:
 
 def ways_of(one: Chamfer, ends: Ends) -> list[Squared]:
     """How a chamfer may be squared. What goes straight on along lines at both ends turns at both with the other corner."""
-    plain = ends._replace(others=[])
-    return [Squared(one, slant, both) for both in ((False, False), (False, True), (True, False), (True, True)) for slant in one.slants
-            if all(ends.fits(slant, at, both[at]) for at in (0, 1)) and not (all(both) and all(plain.fits(slant, at, True) for at in (0, 1)))]
+    plain, both_on = ends._replace(others=[]), (End.ON, End.ON)
+    return [Squared(one, slant, its) for its in itertools.product(End, End) if its != (End.BACK, End.BACK) for slant in one.slants
+            if all(ends.fits(slant, at, its[at]) for at in (0, 1)) and not (its == both_on and all(plain.fits(slant, at, End.ON) for at in (0, 1)))]
 
 
 def choices(views: Views, found: Sequence[Chamfer]) -> tuple[list[tuple[Squared, ...]], bool]:
@@ -245,15 +264,15 @@ def beside_in(found: Sequence[Chamfer], one: Chamfer) -> list[Slant]:
 
 
 def do_fit(it: Squared, ends: Ends) -> bool:
-    return all(ends.fits(it.slant, at, it.straight[at]) for at in (0, 1))
+    return all(ends.fits(it.slant, at, it.ends[at]) for at in (0, 1))
 
 
 def with_left(views: Views, it: Squared) -> Squared | None:
-    """What is left out where a chamfer goes straight on; nothing where that is a view's border."""
+    """What is left out where a chamfer goes straight on, or back; nothing where that is a view's border."""
     left: list[Stretch] = []
     lines = {view: within(views, view) for view in views.boxes}
     frame, sight = FRAMES[it.one.view], FRAMES[it.one.view].sight
-    for at in (at for at in (0, 1) if it.straight[at]):
+    for at in (at for at in (0, 1) if it.ends[at] is not End.TURNS):
         axis = frame.up if at == 0 else frame.right
         for other in (view for view in views.boxes if shared_axis(it.one.view, view) == axis):
             box, is_upright = views.boxes[other], FRAMES[other].right == axis
@@ -263,6 +282,9 @@ def with_left(views: Views, it: Squared) -> Squared | None:
             for span in common_spans(views, it.one, lines):
                 low, high = sorted(views.place(other, sight, stop) for stop in span)
                 left.append(Stretch(other, is_upright, place, low, high, False))
+        if it.ends[at] is End.BACK:
+            low, high = sorted((it.slant.ends[at][1 - at], it.slant.corner[1 - at]))
+            left.append(Stretch(it.one.view, at == 0, it.slant.corner[at], low, high, False))
     return it._replace(left=tuple(left))
 
 
@@ -288,12 +310,13 @@ def squared_off(edges: Sequence[Edge], chosen: Sequence[Squared], tolerance: flo
 
 
 def sides_of(it: Squared, straight: Sequence[Edge], others: Sequence[Squared], tolerance: float) -> Iterator[Edge]:
-    """The lines that stand for a chamfer, along the sides of its corner."""
+    """The lines that stand for a chamfer, along the sides of its corner, but that along which a wall goes back."""
     for low, high, hidden in it.one.pieces:
         start, end = (image(it, share, straight, others, tolerance) for share in (low, high))
         corner = [it.slant.corner] if all(abs(a - b) > tolerance for a, b in zip(start, end)) else []
         for a, b in itertools.pairwise([start, *corner, end]):
-            yield Edge(hidden, a, b, 7, it.one.edges[0].source)
+            if it.ends[1 if abs(a[1] - b[1]) < abs(a[0] - b[0]) else 0] is not End.BACK:
+                yield Edge(hidden, a, b, 7, it.one.edges[0].source)
 
 
 def image(it: Squared, share: float, straight: Sequence[Edge], others: Sequence[Squared], tolerance: float) -> Place:

@@ -7,7 +7,7 @@ lines and arcs of each view, with which they are compared. All are from a view's
     draft line FRONT dashed 34 0 34 8
     draft smooth FRONT upright solid 8 0 8  left out as a tangent edge or a seam: at, from, to
     draft cone TOP 40 25 3 4 0 2.2 sure     a centre, from a radius at a depth on to another, and whether nothing else can stand for it
-    draft chamfer FRONT 8 12 20 30          the sharp corner of an oblique edge, and the one across from that
+    draft chamfer FRONT 8 12 20 30 back     the sharp corner of an oblique edge, and the one across from that; whether a wall goes back
     draft hole TOP 40 25 6 0 8              a hole or boss that was taken off: a centre, a radius, from a depth on to another
     draft doubt WORDS
     draft suspect WORDS                     a curve that the other views don't confirm (`unconfirmed.py`), the most suspicious first
@@ -27,7 +27,7 @@ VIEW = "|".join((*VIEWS, *FURTHER))
 FORMS = {
     "round": rf"({VIEW}) # # # ([1-4]{{1,4}})( inner)?( cut)?", "arc": rf"({VIEW}) (solid|dashed) # # # # #",
     "line": rf"({VIEW}) (solid|dashed) # # # #", "smooth": rf"({VIEW}) (upright|level) (solid|dashed) # # #",
-    "cone": rf"({VIEW}) # # # # # #( sure)?", "reading": r"([1-9]\d{0,5}) of ([1-9]\d{0,5})", "chamfer": rf"({VIEW}) # # # #", "hole": rf"({VIEW}) # # # # #", "doubt": "(.*)", "suspect": "(.*)",
+    "cone": rf"({VIEW}) # # # # # #( sure)?", "reading": r"([1-9]\d{0,5}) of ([1-9]\d{0,5})", "chamfer": rf"({VIEW}) # # # #( back)?", "hole": rf"({VIEW}) # # # # #", "doubt": "(.*)", "suspect": "(.*)",
 }
 
 
@@ -50,10 +50,11 @@ class Squared(NamedTuple):
 
 
 class Chamfer(NamedTuple):
-    """An oblique edge that was squared off (`chamfers.py`): its view, and its corner."""
+    """An oblique edge that was squared off (`chamfers.py`): its view, its corner, and whether a wall goes back along a side of that."""
 
     view: str
     slant: Slant
+    is_back: bool = False
 
     @property
     def quarters(self) -> tuple[Slant]:
@@ -211,7 +212,7 @@ def rows_of(given: Given) -> Iterator[str]:
         yield f"smooth {it.view} {way} {styled(it.hidden)} {plain(it.at, it.low, it.high)}"
     for cone in given.cones:
         yield f"cone {cone.view} {plain(*cone.centre, *cone[2:6])}{' sure' if cone.is_sure else ''}"
-    yield from (f"chamfer {it.view} {plain(*it.slant.corner, *it.slant.centre)}" for it in given.chamfers)
+    yield from (f"chamfer {it.view} {plain(*it.slant.corner, *it.slant.centre)}{' back' if it.is_back else ''}" for it in given.chamfers)
     yield from (f"hole {it.view} {plain(*it.centre, *it[2:])}" for it in given.holes)
     yield from (f"doubt {text}" for text in given.doubts)
     yield from (f"suspect {text}" for text in given.suspects)
@@ -262,10 +263,10 @@ def take_cone(given: Given, view: str, *told: str) -> None:
 
 
 def chamfer_in(view: str, *told: str) -> Chamfer:
-    a, b, c, d = map(float, told)
+    a, b, c, d = map(float, told[:4])
     if a == c or b == d:
         raise Refused("a chamfer without a width or a height")
-    return Chamfer(view, Slant((c, d), (a, b)))
+    return Chamfer(view, Slant((c, d), (a, b)), bool(told[4]))
 
 
 def hole_in(view: str, *told: str) -> Hole:

@@ -105,6 +105,8 @@ def layer_of(
 ) -> Layer | None:
     """The layer, where the quarter is drawn in it."""
     one, quarter = drawn
+    if isinstance(one, Chamfer) and one.is_back:
+        return back_layer(at, ends)
     styles = {pair for pair, _ in at}
     if styles in ({FULL_INSIDE}, {FULL_OUTSIDE}):
         return Layer(*ends, FULL_INSIDE in styles)
@@ -121,6 +123,12 @@ def layer_of(
     is_full = FULL_INSIDE in sides
     on = [it.where for pair, it in at if it.where and pair == (is_full, is_full)]
     return Layer(*ends, is_full, strips_of(on, quarter, unit))
+
+
+def back_layer(at: list[tuple[tuple[bool, bool], Beside]], ends: tuple[int, int]) -> Layer | None:
+    """The layer of a chamfer of which a wall goes back along one side of its corner: there the same is on both sides of that."""
+    sides = [{pair for pair, it in at if it.where and it.where[0] == across} for across in (0, 1)]
+    return next((Layer(*ends, is_full) for is_full in (True, False) if {(is_full, not is_full)} in sides and {(is_full, is_full)} in sides), None)
 
 
 def walls_along(at: list[tuple[tuple[bool, bool], Beside]]) -> int | None:

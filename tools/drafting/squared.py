@@ -13,7 +13,6 @@ from typing import NamedTuple
 from . import chamfers, cones, given, holes, noted, rounds, section_views, sheet, tangent, unconfirmed
 from .cutting import Mark
 from .drawing import VIEWS, Place
-from .exports import arcs_hidden_by, twice_hidden
 from .given import Cone, Given, Stretch
 from .groups import Group, frames, holds, meet, merged, pieces_of
 from .messages import Refused, many
@@ -327,7 +326,7 @@ class Frame(NamedTuple):
         return given.Hole(it.view, self.place(it.one.centre), it.one.radius * self.times, it.low * self.times, it.high * self.times)
 
     def chamfer(self, it: chamfers.Squared) -> given.Chamfer:
-        return given.Chamfer(it.one.view, rounds.Slant(self.place(it.slant.centre), self.place(it.slant.corner)))
+        return given.Chamfer(it.one.view, rounds.Slant(self.place(it.slant.centre), self.place(it.slant.corner)), chamfers.End.BACK in it.ends)
 
     def stretch(self, it: Stretch) -> Stretch:
         ends = self.edge(it.edge())

@@ -69,6 +69,13 @@ class Cases(test_rounds.InAFolder):
         self.one(box(0, 0, 0, 60, 40, 30).cut(prism(1, [(20, 30), (40, 30), (30, 20)], 0, 40)), "68,000 mm³", 3)
         self.one(prism(2, [(10, 0), (5, 9), (-5, 9), (-10, 0), (-5, -9), (5, -9)], 0, 8), "2,160 mm³", 9)
 
+    def test_dovetails(self) -> None:
+        # 80 * 60 * 24 less a groove of 28 and 40 by 12; and a slide that fits it, 28 and 40 by 12 upon 60 * 60 * 10.
+        groove = box(0, 0, 0, 80, 60, 24).cut(prism(1, [(26, 24), (54, 24), (60, 12), (20, 12)], 0, 60))
+        self.one(groove, "90,720 mm³", 4)
+        slide = box(0, 0, 0, 60, 60, 10).fuse(prism(1, [(16, 10), (44, 10), (50, 22), (10, 22)], 0, 60)).removeSplitter()
+        self.one(slide, "60,480 mm³", 4)
+
     def test_what_stands_behind_and_before(self) -> None:
         self.one(bracket(box(0, 18, 8, 10, 32, 24)), "43,840 mm³")
         self.one(bracket(box(50, 18, 8, 60, 32, 24)), "43,840 mm³")
@@ -114,8 +121,14 @@ class Refusals(test_rounds.InAFolder):
         block = box(0, 0, 0, 50, 40, 10)
         rim = block.makeChamfer(3, [it for it in block.Edges if all(abs(end.Point.z - 10) < 1e-9 for end in it.Vertexes)])
         self.refused(rim, "it is oblique, .*: the views from its side don't show lines along it at both its ends, side by side")
+
+        def floorless(space: Any, places: dict[str, tuple[float, float]]) -> None:
+            x, y = places["FRONT"]
+            for line in [it for it in space.query("LINE") if it.dxf.start.y == it.dxf.end.y == y + 20 and it.dxf.start.x < x + 60]:
+                space.delete_entity(line)
+
         self.refused(box(0, 0, 0, 60, 40, 30).cut(prism(1, [(20, 30), (40, 30), (45, 20), (15, 20)], 0, 40)),
-                     "it is oblique, .*: where it ends no level or upright line goes on away from it")
+                     "it is oblique, .*: where it ends no level or upright line goes on away from it", floorless)
 
         def stray(space: Any, places: dict[str, tuple[float, float]]) -> None:
             x, y = places["TOP"]
