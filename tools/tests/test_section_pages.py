@@ -45,7 +45,7 @@ def lines_in(text: str) -> list[str]:
 
 
 def area(rectangles_within: list[Any]) -> float:
-    return sum((right - left) * (high - low) for (left, low), (right, high) in rectangles_within)
+    return float(sum((right - left) * (high - low) for (left, low), (right, high) in rectangles_within))
 
 
 class Pictures(unittest.TestCase):
