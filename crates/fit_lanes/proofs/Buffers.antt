@@ -9,7 +9,7 @@ use Rattle.solid_model.specs.Blocks.{ProblemParts}
 use Rattle.fit_lanes.specs.Busy.{AreAlikeBeyond}
 use Rattle.solid_model.specs.Choices.{cells_of_choice}
 use Rattle.solid_model.specs.GridBox.{grid_sizes}
-use Rattle.fit_lanes.specs.Cuts.{AreLeftOf, IsLeftBit, LieWithin}
+use Rattle.fit_lanes.specs.Cuts.{AreLeftOf, HaveOnlyKept, IsLeftBit}
 use Rattle.fit_lanes.specs.Kept.{AreBytesFor, AreBuffersOf}
 use Rattle.fit_lanes.specs.Points.{places_before}
 use Rattle.fit_lanes.proofs.BusyPoints.{alike_beyond}
@@ -71,8 +71,8 @@ module _ (p : ProblemParts) (x : Layer) (kept : Option ℕ) (w h : ℕ) (sights 
 
   -- and lie within the depths that are kept
   pub choice_within : (choice : List Bool) (filled : List ℕ) → AreFilled choice sights filled → length filled ≡ length columns → (others : List ℕ) → others ≡ filled
-      → LieWithin kept others
-  choice_within choice filled fill long others same = subst (LieWithin kept) (sym same) (kept_within x (grid_sizes p.grid) (cells_of_choice p.blocks.numbers choice) kept filled
+      → HaveOnlyKept kept others
+  choice_within choice filled fill long others same = subst (HaveOnlyKept kept) (sym same) (kept_within x (grid_sizes p.grid) (cells_of_choice p.blocks.numbers choice) kept filled
       (filled_kept x (grid_sizes p.grid) p.blocks.numbers kept sights buffers.sights_of choice filled fill (long ∙ buffers.columns_for)))
 
   -- the buffers are for the same after another choice was drawn

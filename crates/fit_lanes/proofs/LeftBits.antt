@@ -14,7 +14,7 @@ use Rattle.lemmas.proofs.Tests.{same_tests}
 use Rattle.solid_model.specs.Columns.{IsFirstFull, HaveSameFirstFull, ColumnsDraw}
 use Rattle.solid_model.specs.declared.segment.Style.TheVariants.{Blank, Solid}
 use Rattle.solid_model.proofs.FirstBits.{solid_from_zeros}
-use Rattle.fit_lanes.specs.Cuts.{AreLeftOf, IsLeftBit, IsLeftOf, LiesWithin}
+use Rattle.fit_lanes.specs.Cuts.{AreLeftOf, HasOnlyKept, IsLeftBit, IsLeftOf}
 
 -- a bit that is set stands within a word
 bit_within : (n k : ℕ) → n < 2 ^ 64 → is_set n k ≡ true → k < 64
@@ -91,7 +91,7 @@ some_left (Some depths) fits columns = (
 -- ---- the styles between columns that are left
 
 -- a column within the depths that are kept, and what is left of it, have the same first full depth
-module _ (kept column left : ℕ) (of : IsLeftOf (Some kept) column left) (within : LiesWithin (Some kept) column) where
+module _ (kept column left : ℕ) (of : IsLeftOf (Some kept) column left) (within : HasOnlyKept (Some kept) column) where
   own : (k : ℕ) → is_set column k ≡ true → is_set left k ≡ true
   own k on = (of k).1 (within k on, (k, omega arith, within k on, on))
 
@@ -126,7 +126,7 @@ module _ (kept column left : ℕ) (of : IsLeftOf (Some kept) column left) (withi
       below (pos m) l = false_from_ne_true (is_set column m) (λ e. both_ways (is_set left m) (first.1 (pos m) l) (own m e))
 
 module _ (kept after before left_after left_before : ℕ) (of_after : IsLeftOf (Some kept) after left_after) (of_before : IsLeftOf (Some kept) before left_before)
-    (after_within : LiesWithin (Some kept) after) (before_within : LiesWithin (Some kept) before) (after_fits : after < 2 ^ 64) (before_fits : before < 2 ^ 64) where
+    (after_within : HasOnlyKept (Some kept) after) (before_within : HasOnlyKept (Some kept) before) (after_fits : after < 2 ^ 64) (before_fits : before < 2 ^ 64) where
   -- so with different numbers of zeros they draw Solid
   pub left_solid : zeros after ≢ zeros before → ColumnsDraw (bits left_after) (bits left_before) Solid
   left_solid differ same = solid_from_zeros after before after_fits before_fits differ (λ k. (
@@ -135,7 +135,7 @@ module _ (kept after before left_after left_before : ℕ) (of_after : IsLeftOf (
   ))
 
 -- with as many zeros the same is left
-same_left : (kept one other left_one left_other : ℕ) → IsLeftOf (Some kept) one left_one → IsLeftOf (Some kept) other left_other → LiesWithin (Some kept) other → one < 2 ^ 64 → other < 2 ^ 64
+same_left : (kept one other left_one left_other : ℕ) → IsLeftOf (Some kept) one left_one → IsLeftOf (Some kept) other left_other → HasOnlyKept (Some kept) other → one < 2 ^ 64 → other < 2 ^ 64
     → zeros one ≡ zeros other → (k : ℕ) → is_set left_one k ≡ true → is_set left_other k ≡ true
 same_left kept one other left_one left_other of_one of_other within fits other_fits same k on =
     let b = (of_one k).0 on in let n : ℕ = b.1.0 in let less : n ≤ k = b.1.1 in
@@ -145,7 +145,7 @@ same_left kept one other left_one left_other of_one of_other within fits other_f
     (of_other k).1 (b.0, (zeros other, omega (arith, low, less, same), within (zeros other) there, there))
 
 pub left_blank : (kept after before left_after left_before : ℕ) → IsLeftOf (Some kept) after left_after → IsLeftOf (Some kept) before left_before
-    → LiesWithin (Some kept) after → LiesWithin (Some kept) before → after < 2 ^ 64 → before < 2 ^ 64 → zeros after ≡ zeros before → ColumnsDraw (bits left_after) (bits left_before) Blank
+    → HasOnlyKept (Some kept) after → HasOnlyKept (Some kept) before → after < 2 ^ 64 → before < 2 ^ 64 → zeros after ≡ zeros before → ColumnsDraw (bits left_after) (bits left_before) Blank
 left_blank kept after before left_after left_before of_after of_before after_within before_within after_fits before_fits same = by
   where
     by : (k : ℤ) → bits left_after k ≡ bits left_before k

@@ -20,7 +20,7 @@ use Rattle.solid_model.specs.Grid.{Coordinates, GridCell, gaps_along}
 use Rattle.solid_model.specs.GridPlaces.{place_in, number_on, grid_cell_in}
 use Rattle.solid_model.specs.PerAxis.{numbered}
 use Rattle.solid_model.specs.WalledBoxes.{Sizes}
-use Rattle.fit_lanes.specs.Cuts.{is_kept, keeps, AreLeftOf, IsLeftBit, KeepsDepths, LieWithin}
+use Rattle.fit_lanes.specs.Cuts.{is_kept, keeps, AreLeftOf, HaveOnlyKept, IsLeftBit, KeepsDepths}
 use Rattle.fit_lanes.specs.Sights.{width, height, AreSights, AreSeenColumns}
 use Rattle.fit_lanes.proofs.SightRows.{seen_from}
 
@@ -43,7 +43,7 @@ filled_kept x sizes numbers kept sights are choice columns filled long = record 
 }
 
 -- so they lie within those depths,
-pub kept_within : (x : Layer) (sizes : Sizes) (chosen : List Bool) (kept : Option ℕ) (columns : List ℕ) → AreKeptColumns x sizes chosen kept columns → LieWithin kept columns
+pub kept_within : (x : Layer) (sizes : Sizes) (chosen : List Bool) (kept : Option ℕ) (columns : List ℕ) → AreKeptColumns x sizes chosen kept columns → HaveOnlyKept kept columns
 kept_within x sizes chosen kept columns are p l k on = elim (cases_lt (p % (width x sizes + 1)) (width x sizes)) as (λ _. keeps kept k ≡ true) [
   | inl a ↦ elim (cases_lt (p / (width x sizes + 1)) 1) as (λ _. keeps kept k ≡ true) [
     | inl none ↦ absurd (both_ways (is_set (slice_index_or columns p 0) k) (are.outside p l (inr (inl (let e : p / (width x sizes + 1) ≡ 0 = omega (arith, none) in e))) k) on)

@@ -36,12 +36,12 @@ abbrev pub AreLeftOf : Option ℕ → List ℕ → List ℕ → Type 0
 AreLeftOf kept columns left = (p : ℕ) → p < length columns → IsLeftOf kept (slice_index_or columns p 0) (slice_index_or left p 0)
 
 -- a column has no cell but at depths that are kept
-abbrev pub LiesWithin : Option ℕ → ℕ → Type 0
-LiesWithin kept column = (k : ℕ) → is_set column k ≡ true → keeps kept k ≡ true
+abbrev pub HasOnlyKept : Option ℕ → ℕ → Type 0
+HasOnlyKept kept column = (k : ℕ) → is_set column k ≡ true → keeps kept k ≡ true
 
 -- each of these columns
-abbrev pub LieWithin : Option ℕ → List ℕ → Type 0
-LieWithin kept columns = (p : ℕ) → p < length columns → LiesWithin kept (slice_index_or columns p 0)
+abbrev pub HaveOnlyKept : Option ℕ → List ℕ → Type 0
+HaveOnlyKept kept columns = (p : ℕ) → p < length columns → HasOnlyKept kept (slice_index_or columns p 0)
 
 -- the bits of the depths that a cut keeps, seen as a layer
 pub record KeepsDepths (coordinates : Coordinates) (x : Layer) (c : Cut) (kept : ℕ) : Type 0 where

@@ -1,7 +1,7 @@
 //! What a cut leaves of columns of cells, as bits: bit 0 is the nearest cell.
 
 ghost use Rattle.std.specs.Prelude.{◌≡◌, ◌≤◌, ◌&&◌, ℕ, Some, IfSome};
-ghost use Rattle.fit_lanes.specs.Cuts.{is_kept, keeps, AreKept, IsLeftOf, KeepsDepths, LiesWithin};
+ghost use Rattle.fit_lanes.specs.Cuts.{is_kept, keeps, AreKept, HasOnlyKept, IsLeftOf, KeepsDepths};
 ghost use Rattle.lemmas.specs.Bits.{bits, is_set};
 ghost use Rattle.solid_model.specs.Columns.{ColumnsDraw};
 ghost use Rattle.solid_model.specs.Panels.{coordinates_of};
@@ -62,7 +62,7 @@ pub fn kept_cells(kept: Option<u64>, cells: u64) -> u64
 /// The style that two columns draw on the segment between them where all behind the first full
 /// depth of each is full, as far as it is kept: no edge is hidden.
 fn left_style(after: Column, before: Column) -> Style
-    ensures { (kept a b : ℕ) → LiesWithin (Some kept) after.0 → LiesWithin (Some kept) before.0
+    ensures { (kept a b : ℕ) → HasOnlyKept (Some kept) after.0 → HasOnlyKept (Some kept) before.0
         → IsLeftOf (Some kept) after.0 a → IsLeftOf (Some kept) before.0 b
         → ColumnsDraw (bits a) (bits b) result }
 {
@@ -76,8 +76,8 @@ fn left_style(after: Column, before: Column) -> Style
 /// The style that what is left of two columns draws on the segment between them; that of the
 /// columns where no depths are told.
 pub fn style_between(kept: Option<u64>, after: Column, before: Column) -> Style
-    requires after { LiesWithin kept after.0 }
-    requires before { LiesWithin kept before.0 }
+    requires after { HasOnlyKept kept after.0 }
+    requires before { HasOnlyKept kept before.0 }
     ensures { (a b : ℕ) → IsLeftOf kept after.0 a → IsLeftOf kept before.0 b
         → ColumnsDraw (bits a) (bits b) result }
 {

@@ -2,7 +2,7 @@
 
 ghost use Rattle.std.specs.Prelude.{◌≡◌, ◌≤◌, ◌<◌, ◌+◌, ◌↔◌, ℕ, List, length, IsTrue, IfOk, MatchOption};
 ghost use Rattle.fit_lanes.specs.Busy.{AreAlikeBeyond, AreBlankBeyond};
-ghost use Rattle.fit_lanes.specs.Cuts.{AreLeftOf, LieWithin};
+ghost use Rattle.fit_lanes.specs.Cuts.{AreLeftOf, HaveOnlyKept};
 ghost use Rattle.fit_lanes.specs.Points.{point_byte, ArePointBytes};
 ghost use Rattle.fit_lanes.specs.Drawn.{DrawsFrom, DrawsLine, DrawsNoLine, IsFirstLine};
 ghost use Rattle.fit_lanes.specs.Tests.{AreDrawn};
@@ -75,7 +75,7 @@ pub fn draw(
     points: &[usize],
     drawn: &mut [u8],
 )
-    requires within { LieWithin kept columns.now }
+    requires within { HaveOnlyKept kept columns.now }
     requires stride { 1 ≤ stride }
     requires enough { length columns.now ≡ length drawn.old + stride }
     requires inside { Each (λ p. p < length drawn.old) points.now }

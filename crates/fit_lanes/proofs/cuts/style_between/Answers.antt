@@ -2,11 +2,11 @@
 use Rattle.std.proofs.Common.{ℕ, Option, sym, subst}
 use Rattle.lemmas.specs.Bits.{bits}
 use Rattle.solid_model.specs.Columns.{ColumnsDraw}
-use Rattle.fit_lanes.specs.Cuts.{IsLeftOf, LiesWithin}
+use Rattle.fit_lanes.specs.Cuts.{HasOnlyKept, IsLeftOf}
 use Rattle.fit_lanes.proofs.cuts.style_between.Goals as goal
 
 pub returns-in-Some : goal.returns-in-Some
-returns-in-Some c = subst (λ (o : Option ℕ). LiesWithin o c.args.after.0 → LiesWithin o c.args.before.0 → (a b : ℕ) → IsLeftOf o c.args.after.0 a → IsLeftOf o c.args.before.0 b
+returns-in-Some c = subst (λ (o : Option ℕ). HasOnlyKept o c.args.after.0 → HasOnlyKept o c.args.before.0 → (a b : ℕ) → IsLeftOf o c.args.after.0 a → IsLeftOf o c.args.before.0 b
     → ColumnsDraw (bits a) (bits b) c.left_style.result) (sym c.in-Some.is)
     (λ after before a b of_after of_before. c.left_style.ensures c.in-Some.field-0 a b after before of_after of_before) c.requires.after c.requires.before
 
