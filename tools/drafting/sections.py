@@ -131,7 +131,8 @@ class Sections(NamedTuple):
                 continue
             if not told and len(near) > 1 and near[1][0] < NEARER * near[0][0]:
                 raise Refused(f"{word.text!r}, {word.source}, says that a group of lines is a section, and which isn't told: "
-                              f"{groups[near[0][1]]}, or {groups[near[1][1]]}; set it nearer to its group, or leave out its layer")
+                              f"{groups[near[0][1]]}, or {groups[near[1][1]]}; set it nearer to its group, "
+                              "hatch both where they are pieces of one section, or leave out its layer")
             yield (told or near)[0][1], Why(f"{word.text!r} stands by it", (word.source,), ((letter, word),) if letter else ())
 
     def refuse_lost(self, groups: Sequence[Group], found: dict[int, list[Why]], left_out: Sequence[Group] | None) -> None:

@@ -222,6 +222,16 @@ class SectionSheets(unittest.TestCase):
         with self.assertRaisesRegex(Refused, "two groups have the label A-A"):
             self.drawn()
 
+    def test_in_pieces(self) -> None:
+        """A hatch holds them together; a label amid two of them alone tells none, and a hatch is what is advised."""
+        fork = section_sheets.box(0, 0, 0, 10, 6, 6) - section_sheets.box(4, 2, 0, 6, 6, 6)
+        section_sheets.made(form_of("plane=4 hatch=none"), self.file, fork)
+        with self.assertRaisesRegex(Refused, "which isn't told: .*; set it nearer to its group, hatch both where they are pieces of one section, or leave out"):
+            self.drawn()
+        section_sheets.made(form_of("plane=4"), self.file, fork)
+        drawn, said = self.drawn()
+        self.assertEqual(shown_in(lines_within(drawn.text.encode())), wanted_of(fork, "FRONT", 4, ("AREA",), False), said)
+
     def test_a_plane_that_needs_decimals(self) -> None:
         """It lies within a gap of one unit at the part's end, where no whole coordinate is: what it shows is what the part behind it does, whole."""
         cells = section_sheets.box(0, 0, 0, 4, 3, 3) - section_sheets.box(1, 0, 0, 2, 1, 3) - section_sheets.box(2, 1, 1, 4, 2, 3)
@@ -272,7 +282,14 @@ class SectionSheets(unittest.TestCase):
                 maker.cutting_line(form)
                 maker.section(form)
             maker.doc.saveas(self.file)
-            is_fewer, is_alone = self.checked(cells, forms, [cells_of(solid) for solid in views.answer().solids])
+            try:
+                is_fewer, is_alone = self.checked(cells, forms, [cells_of(solid) for solid in views.answer().solids])
+            except Refused as refusal:
+                # A label stands amid pieces that no hatch holds together.
+                self.assertRegex(str(refusal), "^'SECTION .-.', .* says that a group of lines is a section, and which isn't told")
+                self.assertIn("none", [form.hatch for form in forms], refusal)
+                found["in pieces, without a hatch", "refused"] += 1
+                continue
             found["read", "right" if is_alone else "among several"] += 1
             fewer += is_fewer
         return fewer, found
