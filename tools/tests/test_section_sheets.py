@@ -29,6 +29,7 @@ except ImportError:
 PARSER = command.parser_of(command.commands())
 KINDS = {"SECTION": section_of, "AREA": area_of}
 MIRRORED = {"SIDE": "LEFT", "LEFT": "SIDE"}
+OPPOSITE = {**MIRRORED, "FRONT": "REAR", "REAR": "FRONT", "TOP": "BOTTOM", "BOTTOM": "TOP"}
 # How many random sheets there are, in the gate and with --long; and of how many solids of the views alone at most.
 SHEETS, MANY, MOST_SOLIDS = 20, 270, 200
 # Every how manieth of them is drawn as none is read, and how: what is otherwise than in a section that is read, or a rib that is drawn uncut.
@@ -271,7 +272,9 @@ class SectionSheets(unittest.TestCase):
             if found.total() % EVERY:
                 name, form = rng.choice(list(OTHERWISE)), forms[0]
                 if self.draw_otherwise(maker, name, form, rng):
-                    found[name, self.outcome(cells)] += 1
+                    outcome = self.outcome(cells)
+                    is_own = outcome == "wrong" and name == "arrows the wrong way" and self.is_of_others(maker, forms[0])
+                    found[name, "right for another part" if is_own else outcome] += 1
                 continue
             maker.draw_views()
             maker.doc.saveas(self.file)
@@ -329,6 +332,16 @@ class SectionSheets(unittest.TestCase):
             arguments.sections = bool(shown_in(asked.lines))
             return "none, why is said" if ruled_out.told(asked, arguments) + ruled_out.may_be_sections(asked, arguments) else "none"
         return "wrong" if cells not in left else "right" if len(left) == 1 else "among several"
+
+    def is_of_others(self, maker: "Maker", form: "Form") -> bool:
+        """Whether a sheet with arrows the wrong way is, by the slow writer, that of each solid that comes of it with its arrows right: nothing
+        on it tells that they are wrong."""
+        shows = [show for name, show in KINDS.items() if form.hatch != "none" or name == "SECTION"]
+        views = "FRONT", "TOP", maker.side
+        return all(
+            all(section_sheets.view_of(other, view) == section_sheets.view_of(maker.cells, view) for view in views)
+            and all(show(other, OPPOSITE[form.looks], form.plane) == show(maker.cells, form.looks, form.plane) for show in shows)
+            for other in map(cells_of, self.asked()[0].answer().solids))
 
     def checked(self, cells: set[Cell], forms: "list[Form]", solids: list[set[Cell]]) -> tuple[bool, bool]:
         """A sheet whose views alone have these solids: just those are left that show its sections, as the slow writer draws them. Whether these are
