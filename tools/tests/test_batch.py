@@ -68,9 +68,10 @@ class Spite(unittest.TestCase):
 
     def test_a_drawing_costs_itself_alone(self) -> None:
         told = {"abort": "reading it was ended by SIGABRT", "exit": "reading it ended with status 3", "bomb": f"reading it took more than {self.memory:,} MiB",
-                "endless": "reading it took longer than 1 seconds", "leave": "reading it was ended by SIGABRT"}
+                "endless": "reading it took longer than 10 seconds", "leave": "reading it was ended by SIGABRT"}
         for name, message in told.items():
-            before, spiteful, *behind = self.rows("a", name, "b", "c", seconds=1 if name == "endless" else 600)
+            # The limit is that of the others too, which may wait for a processor.
+            before, spiteful, *behind = self.rows("a", name, "b", "c", seconds=10 if name == "endless" else 600)
             self.assertEqual((spiteful["status"], spiteful["message"]), ("failed", message))
             self.assertEqual([row["status"] for row in (before, *behind)], ["refused"] * 3)
             # Those behind it have a worker that has read none but these.
