@@ -18,7 +18,7 @@ from typing import NamedTuple
 
 from .answers import Solid
 from .drawing import VIEWS
-from .given import Given, Hole as Told, Stretch
+from .given import Given, Hole as Told, Stretch, plain
 from .panels import FRAMES
 from .reading import Edge
 from .rounded import Drawn, is_full_in, spot
@@ -141,7 +141,8 @@ def volume_by_pi(solid: Solid, found: Sequence[Drawn], given: Given, unit: int) 
     """The number of pi by which what was taken off changes a solid's volume, once its rounds are rounded back."""
     total = Fraction(0)
     for it in given.holes:
-        share = Fraction(round(it.radius * unit), unit) ** 2 * Fraction(round(it.high * unit) - round(it.low * unit), unit)
+        radius, low, high = (Fraction(plain(length)) for length in (it.radius, it.low, it.high))
+        share = radius**2 * (high - low)
         total += -share if is_in(solid, found, it, unit) else share
     return total
 

@@ -203,6 +203,11 @@ def ways_of(solid: Solid, given: Given, unit: int) -> Iterator[tuple[list[Drawn]
                 yield way, how <= How.BETWEEN and not any(it.quarter.is_inner for it in way)
 
 
+def half_width(radius: float, unit: int) -> Fraction:
+    """A radius as half of what its square is wide in the drawing."""
+    return Fraction(round(2 * radius * unit), 2 * unit)
+
+
 def volume_of(solid: Solid, found: Sequence[Drawn], unit: int) -> tuple[Fraction, Fraction]:
     """The volume, a number and a number of pi: each quarter takes (1 - pi / 4) r² from a full corner, or adds it to an empty one; each
     chamfer half of its box."""
@@ -213,6 +218,6 @@ def volume_of(solid: Solid, found: Sequence[Drawn], unit: int) -> tuple[Fraction
             width, height = (Fraction(abs(round(a * unit) - round(b * unit)), unit) for a, b in zip(it.quarter.centre, it.quarter.corner))
             plain += depth * width * height / 2
         else:
-            share = depth * Fraction(round(it.quarter.radius * unit), unit) ** 2
+            share = depth * half_width(it.quarter.radius, unit) ** 2
             plain, by_pi = plain + share, by_pi - share / 4
     return plain, by_pi

@@ -22,7 +22,7 @@ from .placing import Placed
 from .reading import Arc, Box, Edge, Sheet, Unread, thing_of, where
 from .rounds import OF_ONE, Move, Round, Squares, arc_box, box_of, is_straight
 from .sections import are_told
-from .straight import Measure, Run, runs_of
+from .straight import Measure, Run, runs_of, without_noise
 from .tangent import Reading, Views
 from .two_exports import arcs_hidden_by, twice_hidden
 from .unread import refuse_oblique, refuse_unread
@@ -322,8 +322,9 @@ class Frame(NamedTuple):
                          for it in one.quarters)
         return given.Squared(view, self.place(one.centre), one.radius * self.times, quarters, bool(one.cuts))
 
-    def hole(self, it: holes.Hole) -> given.Hole:
-        return given.Hole(it.view, self.place(it.one.centre), it.one.radius * self.times, it.low * self.times, it.high * self.times)
+    def hole(self, it: holes.Hole, noise: float) -> given.Hole:
+        radius, low, high = (without_noise(length * self.times, noise * self.times) for length in (it.one.radius, it.low, it.high))
+        return given.Hole(it.view, self.place(it.one.centre), radius, low, high)
 
     def chamfer(self, it: chamfers.Squared) -> given.Chamfer:
         return given.Chamfer(it.one.view, rounds.Slant(self.place(it.slant.centre), self.place(it.slant.corner)), chamfers.End.BACK in it.ends)
@@ -340,7 +341,7 @@ def given_by(
     """What the drawing says of its sheet."""
     oblique = tuple(Frame(placed.views[it.one.view], times, placed.mirrored).chamfer(it) for it in corners)
     result, noise = Given([], {}, {}, [], squares.doubts, [it.times(times) for it in found.cones.its], chamfers=oblique, holes=tuple(
-        Frame(placed.views[it.view], times, placed.mirrored).hole(it) for it in found.holes)), OF_ONE * found.tolerance
+        Frame(placed.views[it.view], times, placed.mirrored).hole(it, found.tolerance) for it in found.holes)), OF_ONE * found.tolerance
     for view, group in placed.views.items():
         frame = Frame(group, times, placed.mirrored)
         for one in squares.rounds:

@@ -207,3 +207,9 @@ def measure_of(values: Sequence[float], scale: Fraction, decimals: int | None, t
             if moved is not None:
                 return Measure(scale * parts, 0, moved)
     return None
+
+
+def without_noise(length: float, tolerance: float) -> float:
+    """A length with the fewest decimals that it has but for noise; as it is where it has more than are read."""
+    counts = (count for count in range(MOST_DECIMALS + 1) if fits([length], Fraction(1), count, tolerance) is not None)
+    return next((round(length, count) for count in counts), length)

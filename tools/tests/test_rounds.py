@@ -91,6 +91,17 @@ class Cases(InAFolder):
         self.one(shape.removeSplitter())
         self.assertTrue(any("to 4 decimals" in it for it in self.said), self.said)
 
+    def test_volumes_of_radii_with_a_decimal_more_than_the_drawing(self) -> None:
+        plate = box(0, 0, 0, 200, 200, 10)
+        for tool, volume in ((cylinder(2, (10.5, 10.5), 0, 10, 0.5), "400,000 - 2.5 pi = 399,992.15 mm³"),
+                             (parts.drilled(2, (50.5, 50.5), 10, 4, 2.5, 90), " = 399,865.83 mm³")):
+            shape = plate.cut(tool)
+            parts.sheet_of(shape, self.file)
+            asked = self.asked()
+            self.exact(shape, asked)
+            self.assertAlmostEqual(asked.kept[0].size(), shape.Volume, 4)
+            self.assertIn(volume, asked.rounded_volume(asked.kept[0]))
+
     def test_bulges_chords_and_centre_lines(self) -> None:
         plain = box(0, 0, 0, 50, 40, 10).cut(cylinder(2, (20, 20), 0, 10, 5)).cut(cylinder(2, (20, 20), 6, 10, 8))
         bulges: list[tuple[float, float, float]] = [(-1, 0, 1), (1, 0, 1)]
