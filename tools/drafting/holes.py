@@ -4,7 +4,8 @@ back. Such a hole is a whole circle of one style, of which
 1. both views from the side draw lines along the axis a radius beside it, at both sides, over just one stretch, the same in both views;
 2. no line goes across from one of these lines to the other within that stretch; where one goes across both it is told that other solids
    may be missed;
-3. no visible line lies within the circle, and none of another circle's upon its lines from the side.
+3. no visible line lies within the circle, and none of another circle's upon its lines from the side;
+4. it reaches no farther than what isn't taken off.
 
 An end of it within the stretch would be drawn across; so each solid of the sheet has the circle as a cylinder over just that stretch, as a
 hole or a boss. Without it the sheet lacks the circle, these lines, and the ones across its ends where they reach no farther. It is put back
@@ -19,11 +20,12 @@ from typing import NamedTuple
 from .answers import Solid
 from .drawing import VIEWS
 from .given import Given, Hole as Told, Stretch, plain
+from .groups import holds
 from .panels import FRAMES
 from .reading import Edge
 from .rounded import Drawn, is_full_in, spot
-from .rounds import OF_ONE, Round, do_meet, is_level
-from .tangent import Side, Views, sides_of, span_of, within
+from .rounds import OF_ONE, Round, box_of, do_meet, is_level
+from .tangent import Side, Views, sides_of, span_of, within, without
 
 Spans = list[tuple[float, float]]
 
@@ -54,6 +56,7 @@ def holes_of(views: Views, taken: Sequence[Round]) -> list[Hole]:
                 left = tuple(it for side in sides for it in left_of(side, views))
                 is_open = any(list(across(side, OF_ONE * views.tolerance, *ends_in(side, views, spans[0]))) for side in sides if side.view in VIEWS)
                 found.append(Hole(view, one, *spans[0], left, is_open))
+    found = within_rest(found, views, lines)
     return [it for it in found if stands_alone(it, found, views, lines)]
 
 
@@ -127,6 +130,24 @@ def left_of(side: Side, views: Views) -> Iterator[Stretch]:
                 rows = [span_of(it, 1 - side.way) for it in side.lines if is_level(it) == side.is_upright and abs(it.start[side.way] - end) <= noise]
                 if any(abs(a - low_side) <= noise and abs(b - high_side) <= noise for a, b in joined(rows, noise)):
                     yield Stretch(side.view, not side.is_upright, end, low_side, high_side, False)
+
+
+def within_rest(holes: Sequence[Hole], views: Views, lines: Mapping[str, list[Edge]]) -> list[Hole]:
+    """The holes and bosses that reach no farther than all that isn't taken off: without others the part would be smaller."""
+    kept = list(holes)
+    for view in views.boxes if holes else ():
+        rest = without(lines[view], [(it, True) for hole in holes for it in hole.left if it.view == view], views.tolerance)
+        boxes = [box_of([it.start, it.end]) for it in rest]
+        boxes += [one.box for at, one in views.rounds if at == view and not any(it.one is one for it in holes)]
+        around = box_of([place for box in boxes for place in (box[:2], box[2:])]) if boxes else (0.0, 0.0, 0.0, 0.0)
+
+        def reaches(hole: Hole) -> bool:
+            ends = [it.edge() for it in hole.left if it.view == view]
+            own = [box_of([it.start, it.end]) for it in ends] + ([hole.one.box] if hole.view == view else [])
+            return not all(holds(around, box, OF_ONE * views.tolerance) for box in own)
+
+        kept = [it for it in kept if not reaches(it)]
+    return kept
 
 
 def stands_alone(hole: Hole, holes: Sequence[Hole], views: Views, lines: Mapping[str, list[Edge]]) -> bool:

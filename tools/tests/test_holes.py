@@ -42,6 +42,17 @@ class Holes(test_rounds.InAFolder):
         self.one(shape.removeSplitter(), "49,000 - 873 pi = 46,257.39 mm³")
         self.assertTrue(any("may end where another line goes across: other solids may be missed" in it for it in self.said), self.said)
 
+    def test_bosses_that_reach_farther_than_all_else_are_not_taken_off(self) -> None:
+        block = box(0, 0, 0, 47, 49, 35)
+        for boss, hole, told in ((cylinder(2, (17, 29), 35, 45.5, 7), cylinder(2, (26, 36), 0, 25, 2.5),
+                                  "47 mm by 49 mm by 45.5 mm, volume 80,605 + 358.25 pi = 81,730.48 mm³"),
+                                 (cylinder(0, (29, 17), -9.25, 0, 7), cylinder(0, (36, 26), 10, 47, 2.5),
+                                  "56.25 mm by 49 mm by 35 mm, volume 80,605 + 222 pi = 81,302.43 mm³")):
+            shape = block.fuse(boss).cut(hole).removeSplitter()
+            parts.sheet_of(shape, self.file)
+            self.exact(shape)
+            self.assertIn(told, draft("solve", self.file).out)
+
     def test_a_left_view_and_the_drawing_between(self) -> None:
         from drafting.bodies import turned_round
         parts.sheet_of(motor_plate(), self.file, views=("FRONT", "TOP", "LEFT"))
