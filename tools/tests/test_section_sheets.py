@@ -15,7 +15,7 @@ from drafting.noted import tell_none
 from drafting.panels import FRAMES, Cell
 from drafting.section_layers import strokes_in_all
 
-from .cut_solids import Shown, area_of, planes_through, section_of, unit_cells
+from .cut_solids import Shown, area_of, planes_through, section_of, unit_cells, view_of
 from .made import pierced, random_solid
 from .support import in_words, needs_long, needs_module, needs_program
 from .test_section_layers import cells_of
@@ -339,7 +339,7 @@ class SectionSheets(unittest.TestCase):
         shows = [show for name, show in KINDS.items() if form.hatch != "none" or name == "SECTION"]
         views = "FRONT", "TOP", maker.side
         return all(
-            all(section_sheets.view_of(other, view) == section_sheets.view_of(maker.cells, view) for view in views)
+            all(view_of(other, view) == view_of(maker.cells, view) for view in views)
             and all(show(other, OPPOSITE[form.looks], form.plane) == show(maker.cells, form.looks, form.plane) for show in shows)
             for other in map(cells_of, self.asked()[0].answer().solids))
 
