@@ -2,16 +2,16 @@
 
 ghost use Rattle.std.specs.Prelude.{◌≡◌, IfOk};
 
-use crate::bits::Bits;
 use crate::memory::Memory;
+use crate::prefix::Prefix;
 use std::alloc::Global;
 use std::marker::Model;
 
-/// A choice says for each block whether it is full, in the order of the blocks; contracts see it as
-/// that list.
+/// A choice says for each block whether it is full, in the order of the blocks: a prefix of all of
+/// them. Contracts see it as that list.
 #[derive(Debug, Drop)]
 pub struct Choice {
-    full: Bits,
+    full: Prefix,
 }
 
 impl Model for Choice {
@@ -32,12 +32,12 @@ impl Choice {
     pub fn from_bools(alloc: Global, values: &[bool]) -> Result<Choice, Memory>
         ensures { IfOk result (λ choice. choice ≡ values.now) }
     {
-        let full = Bits::from_bools(alloc, values)?;
+        let full = Prefix::from_bools(alloc, values)?;
         Ok(Choice { full })
     }
 
-    /// The choice with these values, block by block.
-    pub(crate) fn from_bits(full: Bits) -> Choice
+    /// The choice that says the same as a prefix of all blocks.
+    pub(crate) fn of(full: Prefix) -> Choice
         ensures { result ≡ full }
     {
         Choice { full }

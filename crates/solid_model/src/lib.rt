@@ -5,7 +5,6 @@
 //! says it and does nothing: who needs no more of the value calls it for the proof alone.
 #![tactic(auto)]
 
-mod bits;
 mod blocks;
 mod cell;
 mod choice;

@@ -1,7 +1,7 @@
 -- All words.
 use Rattle.std.proofs.Common.{◌*◌, ◌≤◌, length, arith}
 use Rattle.lemmas.proofs.KeptBits.{all_values}
-use Rattle.solid_model.proofs.bits.Bits.from_bools.Goals as goal
+use Rattle.solid_model.proofs.prefix.Prefix.from_bools.Goals as goal
 
 pub returns : goal.returns
 returns c =

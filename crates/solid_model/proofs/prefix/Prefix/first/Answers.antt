@@ -4,7 +4,7 @@ use Rattle.std.proofs.lemmas.List.{length-take}
 use Rattle.lemmas.specs.Bits.{first_bits}
 use Rattle.lemmas.proofs.KeptBits.{length-first_bits}
 use Rattle.lemmas.proofs.BitChanges.{values_first}
-use Rattle.solid_model.proofs.bits.Bits.first.Goals as goal
+use Rattle.solid_model.proofs.prefix.Prefix.first.Goals as goal
 
 pub slice_bounds-words-end : goal.slice_bounds-words-end
 slice_bounds-words-end c =

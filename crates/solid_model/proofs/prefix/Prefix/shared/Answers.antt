@@ -6,7 +6,7 @@ use Rattle.lemmas.specs.Truth.{agree}
 use Rattle.lemmas.specs.Bits.{first_bits, is_set}
 use Rattle.lemmas.proofs.KeptBits.{length-first_bits}
 use Rattle.lemmas.proofs.BitChanges.{shared_to_end, shared_up_to, bit_same, values_same}
-use Rattle.solid_model.proofs.bits.Bits.shared.Goals as goal
+use Rattle.solid_model.proofs.prefix.Prefix.shared.Goals as goal
 
 pub returns-then-same-words : goal.returns-then-same-words
 returns-then-same-words c =

@@ -3,8 +3,8 @@ use Rattle.std.proofs.Common.{◌≡◌, ◌<◌, ◌/◌, ◌%◌, List, Bool, 
 use Rattle.std.proofs.lemmas.List.{get_or_read}
 use Rattle.lemmas.proofs.KeptBits.{length-first_bits}
 use Rattle.lemmas.proofs.BitChanges.{HasBit, with_bit, without_bit, values_with}
-use Rattle.solid_model.proofs.bits.Bits.set.Goals as goal
-use Rattle.solid_model.proofs.bits.Bits.set.Goals.{then-value, else-value}
+use Rattle.solid_model.proofs.prefix.Prefix.set.Goals as goal
+use Rattle.solid_model.proofs.prefix.Prefix.set.Goals.{then-full, else-full}
 
 pub index-word-requires : goal.index-word-requires
 index-word-requires c =
@@ -22,8 +22,8 @@ returns c =
     let within : at < count = omega (arith, length-first_bits words count, ap length c.self.view_is) in
     let read : c.index-word.result.now ≡ get_or words (at / 64) 0 =
     get_or_read words (at / 64) _ (omega (arith, c.self.invariant)) c.index-word.ensures 0 in
-    let has : HasBit (get_or words (at / 64) 0) (at % 64) c.args.value _ = elim c.if-value.branch [
-      | then-value w ↦ rw (w.if-value.true, w.t-15-is, read) (with_bit (get_or words (at / 64) 0) (at % 64) (omega arith))
-      | else-value w ↦ rw (w.if-value.false, w.t-15-is, read) (without_bit (get_or words (at / 64) 0) (at % 64) (omega arith))
+    let has : HasBit (get_or words (at / 64) 0) (at % 64) c.args.full _ = elim c.if-full.branch [
+      | then-full w ↦ rw (w.if-full.true, w.t-15-is, read) (with_bit (get_or words (at / 64) 0) (at % 64) (omega arith))
+      | else-full w ↦ rw (w.if-full.false, w.t-15-is, read) (without_bit (get_or words (at / 64) 0) (at % 64) (omega arith))
     ] in
-    values_with words count at c.args.value _ within c.self.invariant has ∙ ap (λ (l : List Bool). set l at c.args.value) c.self.view_is
+    values_with words count at c.args.full _ within c.self.invariant has ∙ ap (λ (l : List Bool). set l at c.args.full) c.self.view_is

@@ -1,8 +1,8 @@
 -- One bit more.
 use Rattle.std.proofs.Common.{ℕ, Bool, false, get_or, ◌+◌, sym, subst, ◌∙◌, arith}
 use Rattle.lemmas.proofs.FilledWords.{IsFilledBy, fill_clear, fill_set}
-use Rattle.solid_model.proofs.bits.word_of.Goals as goal
-use Rattle.solid_model.proofs.bits.word_of.Goals.{then-value_at, else-value_at}
+use Rattle.solid_model.proofs.prefix.word_of.Goals as goal
+use Rattle.solid_model.proofs.prefix.word_of.Goals.{then-value_at, else-value_at}
 
 pub loop-bit-preserved : goal.loop-bit-preserved
 loop-bit-preserved c =

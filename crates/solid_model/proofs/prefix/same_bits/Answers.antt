@@ -6,7 +6,7 @@ use Rattle.std.proofs.lemmas.Nat.Bits.{bit_at-trailing_zeros}
 use Rattle.std.specs.Int.{trailing_zeros, bit_at}
 use Rattle.std.specs.Int.Bits.{xor_add_and}
 use Rattle.lemmas.proofs.BitChanges.{bit_alike, bit_apart}
-use Rattle.solid_model.proofs.bits.same_bits.Goals as goal
+use Rattle.solid_model.proofs.prefix.same_bits.Goals as goal
 
 -- of words that differ, the exclusive or isn't 0
 some_bit : (a b : ℕ) → (a ≡ b → ⊥) → 0 < bit_xor a b

@@ -3,7 +3,7 @@ use Rattle.std.proofs.Common.{◌/◌, ◌%◌, ◌≤◌, length, take, ap, ◌
 use Rattle.lemmas.specs.Bits.{is_set}
 use Rattle.lemmas.proofs.KeptBits.{length-first_bits}
 use Rattle.lemmas.proofs.BitChanges.{values_same}
-use Rattle.solid_model.proofs.bits.Bits.resize.Goals as goal
+use Rattle.solid_model.proofs.prefix.Prefix.resize.Goals as goal
 
 pub returns-clause-length : goal.returns-clause-length
 returns-clause-length c = length-first_bits c.resize.new.self.items c.args.count

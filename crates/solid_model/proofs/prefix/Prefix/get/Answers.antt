@@ -4,7 +4,7 @@ use Rattle.std.proofs.lemmas.List.{get_or_read}
 use Rattle.std.proofs.lemmas.Nat.Bits.{shr_and_one}
 use Rattle.lemmas.specs.Bits.{is_set}
 use Rattle.lemmas.proofs.KeptBits.{length-first_bits, first_bits_at}
-use Rattle.solid_model.proofs.bits.Bits.get.Goals as goal
+use Rattle.solid_model.proofs.prefix.Prefix.get.Goals as goal
 
 pub index-requires : goal.index-requires
 index-requires c =
