@@ -122,7 +122,7 @@ impl CellRows {
         CellRows::unmarked(alloc, problem.grid().sizes())
     }
 
-    /// Marks the cells that a choice of blocks fills, and no others, in the room of the rows.
+    /// Marks the cells that a choice of blocks fills, and no others, in the rows that it has.
     pub fn fill(&mut self, blocks: &BlockRows<'_>, choice: &Choice)
         requires { self.old.sizes ≡ blocks.now.sizes }
         ensures { self.new ≡ chosen_marks blocks.now choice.now }

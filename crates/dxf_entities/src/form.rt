@@ -2,7 +2,6 @@
 
 ghost use Rattle.std.specs.Prelude.{◌≡◌, ◌≤◌};
 ghost use Rattle.solid_model.specs.Limits.{most_decimals};
-ghost use Rattle.dxf_entities.specs.Forms.{six_views, three_views, with_sections};
 
 use crate::layer_set::LayerSet;
 use std::marker::Model;
@@ -29,37 +28,12 @@ impl Model for ReadingForm {
 }
 
 impl ReadingForm {
-    /// With the layers of the three views alone. At most 6 decimals can be read.
-    pub fn three_views(decimals: u8) -> ReadingForm
+    /// With these layers. At most 6 decimals can be read.
+    pub fn new(layers: LayerSet, decimals: u8) -> ReadingForm
         requires { decimals ≤ most_decimals }
-        ensures { result ≡ three_views decimals }
+        ensures { result ≡ record { decimals = decimals; layers = layers } }
     {
-        ReadingForm {
-            decimals,
-            layers: LayerSet::Main,
-        }
-    }
-
-    /// With those of all six views. At most 6 decimals can be read.
-    pub fn six_views(decimals: u8) -> ReadingForm
-        requires { decimals ≤ most_decimals }
-        ensures { result ≡ six_views decimals }
-    {
-        ReadingForm {
-            decimals,
-            layers: LayerSet::Six,
-        }
-    }
-
-    /// With those of all six views, and of sections and areas. At most 6 decimals can be read.
-    pub fn with_sections(decimals: u8) -> ReadingForm
-        requires { decimals ≤ most_decimals }
-        ensures { result ≡ with_sections decimals }
-    {
-        ReadingForm {
-            decimals,
-            layers: LayerSet::Sections,
-        }
+        ReadingForm { decimals, layers }
     }
 
     /// How many decimals there are.

@@ -12,6 +12,7 @@ ghost use Rattle.dxf_entities.specs.Reading.{main_lines, other_lines, read_of, t
 
 use crate::form::ReadingForm;
 use crate::layer_line::LayerLine;
+use crate::layer_set::LayerSet;
 use crate::reader::Reader;
 use dxf_groups::Groups;
 use solid_model::{Memory, Refused, SheetLine};
@@ -47,7 +48,7 @@ pub fn entities(alloc: Global, groups: &mut Groups, decimals: u8) -> Result<Vec<
     ensures fault { (fault : Fault) → IsErrOf result (refused.Fault fault)
         → read_of decimals groups.old.text ≡ Err fault }
 {
-    let lines = layer_lines(alloc, groups, ReadingForm::three_views(decimals))?;
+    let lines = layer_lines(alloc, groups, ReadingForm::new(LayerSet::Main, decimals))?;
     let own = main_lines(alloc, &lines)?;
     Ok(own)
 }
@@ -91,7 +92,7 @@ pub fn entities_six(
     ensures fault { (fault : Fault) → IsErrOf result (refused.Fault fault)
         → lines_read (six_views decimals) groups.old.text ≡ Err fault }
 {
-    entities_in(alloc, groups, ReadingForm::six_views(decimals))
+    entities_in(alloc, groups, ReadingForm::new(LayerSet::Six, decimals))
 }
 
 /// The lines that a file keeps which is read in this form.

@@ -17,7 +17,7 @@ ghost use Rattle.solid_model.specs.Panels.{IsGridOf};
 
 use crate::cuts::first_uncut;
 use blocks::blocks_of;
-use dxf_entities::{ReadingForm, entities_in};
+use dxf_entities::{LayerSet, ReadingForm, entities_in};
 use dxf_groups::Groups;
 use further_views::{Further, further_of};
 use grid::grid_of;
@@ -101,7 +101,7 @@ pub fn problem_of(alloc: Global, file: Vec<u8>, decimals: u8) -> Result<Problem,
     ensures fault { (fault : Fault) → IsErrOf result (Refused.Fault fault)
         → IsFileFault (input_in (three_views decimals) false most_file_bytes file.items) fault }
 {
-    let form = ReadingForm::three_views(decimals);
+    let form = ReadingForm::new(LayerSet::Main, decimals);
     let (problem, _) = read(alloc, &mut Groups::new(file), form, false)?;
     Ok(problem)
 }
@@ -125,7 +125,7 @@ pub fn problem_of_six(
     read(
         alloc,
         &mut Groups::new(file),
-        ReadingForm::six_views(decimals),
+        ReadingForm::new(LayerSet::Six, decimals),
         false,
     )
 }
@@ -180,7 +180,7 @@ pub fn problem_and_rest(alloc: Global, text: Vec<u8>) -> Result<(Problem, Vec<u8
         → IsFileFault (input_in (three_views 0) false most_text_bytes text.items) fault }
     ensures not_long { IsErrOf result (refused.Fault TooLong) → ⊥ }
 {
-    let form = ReadingForm::three_views(0);
+    let form = ReadingForm::new(LayerSet::Main, 0);
     let (problem, _, rest) = problem_with_rest(alloc, text, form, false)?;
     Ok((problem, rest))
 }

@@ -1,8 +1,7 @@
 //! How an input is read.
 
-ghost use Rattle.std.specs.Prelude.{◌≡◌, ◌≤◌};
+ghost use Rattle.std.specs.Prelude.{◌≡◌};
 ghost use Rattle.recon_run.specs.Owed.{layers_or};
-ghost use Rattle.solid_model.specs.Limits.{most_decimals};
 
 use dxf_entities::{LayerSet, ReadingForm};
 use std::marker::Model;
@@ -18,18 +17,6 @@ pub fn layers_or(sections: bool, layers: LayerSet) -> LayerSet
     ensures { result ≡ layers_or sections layers }
 {
     if sections { LayerSet::Sections } else { layers }
-}
-
-/// The form in which these layers are read, with so many decimals.
-fn reading_form(layers: LayerSet, decimals: u8) -> ReadingForm
-    requires { decimals ≤ most_decimals }
-    ensures { result ≡ record { decimals = decimals; layers = layers } }
-{
-    match layers {
-        LayerSet::Main => ReadingForm::three_views(decimals),
-        LayerSet::Six => ReadingForm::six_views(decimals),
-        LayerSet::Sections => ReadingForm::with_sections(decimals),
-    }
 }
 
 /// How an input is read: how many bytes it may have at most; in which form: how many decimals its
@@ -71,7 +58,7 @@ impl Profile {
     {
         Profile {
             most: MOST_BYTES,
-            form: reading_form(layers, decimals),
+            form: ReadingForm::new(layers, decimals),
             two_views,
         }
     }
@@ -82,7 +69,7 @@ impl Profile {
     {
         Profile {
             most: MOST_WITH_LOG,
-            form: reading_form(layers, 0),
+            form: ReadingForm::new(layers, 0),
             two_views,
         }
     }

@@ -1,7 +1,7 @@
 //! Searches of problems, within limits and piece by piece.
 
 use crate::trees::{push_choices, push_prefix, push_prefixes};
-use dxf_entities::ReadingForm;
+use dxf_entities::{LayerSet, ReadingForm};
 use file_problem::problem_with_rest;
 use search_core::{Desk, Reported};
 use search_end::{Handed, begin, finish};
@@ -20,7 +20,7 @@ const HOLLOW_CUBE: [&str; 3] = ["rect S 0 0 3 3, rect D 1 1 2 2"; 3];
 /// show nothing.
 pub fn problem(alloc: Global, views: [&str; 3]) -> Result<Arc<Problem>, Fail> {
     let file = file_bytes(drawing_file(alloc, views)?)?;
-    let form = ReadingForm::three_views(0);
+    let form = ReadingForm::new(LayerSet::Main, 0);
     let (problem, _, _) = problem_with_rest(alloc, file, form, true)?;
     Ok(Arc::new(alloc, problem)?)
 }

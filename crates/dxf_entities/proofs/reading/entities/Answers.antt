@@ -18,10 +18,10 @@ unfolding read_of text_read
 returns-in_err-lines-clause-fault c = λ f is.
     let q = err_from_is_err_and c.from_residual.result c.from_residual.ensures.1 in
     let faulty : IsErrOf {T = Vec LayerLine Global} (Err c.in_err-lines.field-0.0) (refused.Fault f) = cc in
-    ap of_views (ap (λ form. text_read form c.args.groups.now.text) (sym c.three_views.ensures) ∙ c.in_err-lines.ensures.fault f faulty)
+    ap of_views (ap (λ form. text_read form c.args.groups.now.text) (sym c.new.ensures) ∙ c.in_err-lines.ensures.fault f faulty)
 
 pub returns-clause-lines : goal.returns-clause-lines
 unfolding read_of text_read
 returns-clause-lines c =
-    ap of_views (ap (λ form. text_read form c.args.groups.now.text) (sym c.three_views.ensures) ∙ c.in_ok-lines.ensures.lines)
+    ap of_views (ap (λ form. text_read form c.args.groups.now.text) (sym c.new.ensures) ∙ c.in_ok-lines.ensures.lines)
     ∙ ap Ok (sym (c.in_ok-own.ensures ∙ ap (main_lines) c.deref.ensures.value))

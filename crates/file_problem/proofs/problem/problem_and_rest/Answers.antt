@@ -16,10 +16,10 @@ returns-in_err-problem-clause-not_long c is =
     let q = err_from_is_err_and c.from_residual.result c.from_residual.ensures.1 in
     let faulty : IsErrOf {T = ProblemParts × FurtherRuns × Vec ℕ Global} (Err c.in_err-problem.field-0.0) (refused.Fault TooLong) = cc in
     short_is_not_long (input_in (three_views 0) false most_text_bytes c.args.text.items) c.requires
-    (subst (λ form. IsFileFault (input_in form false most_text_bytes c.args.text.items) TooLong) c.three_views-form.ensures
+    (subst (λ form. IsFileFault (input_in form false most_text_bytes c.args.text.items) TooLong) c.new-form.ensures
     (c.in_err-problem.ensures.fault most_text_bytes c.requires TooLong faulty))
 
 pub returns-clause-problem : goal.returns-clause-problem
 returns-clause-problem c =
-    subst (λ form. HasProblem (input_in form false most_text_bytes c.args.text.items) c.in_ok-problem.problem) c.three_views-form.ensures
+    subst (λ form. HasProblem (input_in form false most_text_bytes c.args.text.items) c.in_ok-problem.problem) c.new-form.ensures
     (c.in_ok-problem.ensures.problem most_text_bytes c.requires).0

@@ -15,12 +15,12 @@ returns-in_err-problem-clause-fault c fault is =
     let faulty : IsErrOf {T = ProblemParts × FurtherRuns} (Err c.in_err-problem.field-0.0) (refused.Fault fault) = cc in
     let text = ap (λ (g : GroupsState). g.text) c.new.ensures in
     let short = subst (λ t. length t ≤ most_file_bytes) (sym text) c.requires.short in
-    subst (λ t. IsFileFault t fault) (ap₂ (λ form t. input_in form false most_file_bytes t) c.three_views-form.ensures text)
+    subst (λ t. IsFileFault t fault) (ap₂ (λ form t. input_in form false most_file_bytes t) c.new-form.ensures text)
     (c.in_err-problem.ensures.fault most_file_bytes short fault faulty)
 
 pub returns-clause-problem : goal.returns-clause-problem
 returns-clause-problem c =
     let text = ap (λ (g : GroupsState). g.text) c.new.ensures in
     let short = subst (λ t. length t ≤ most_file_bytes) (sym text) c.requires.short in
-    subst (λ t. HasProblem t c.in_ok-problem.problem) (ap₂ (λ form t. input_in form false most_file_bytes t) c.three_views-form.ensures text)
+    subst (λ t. HasProblem t c.in_ok-problem.problem) (ap₂ (λ form t. input_in form false most_file_bytes t) c.new-form.ensures text)
     (c.in_ok-problem.ensures.problem most_file_bytes short).0

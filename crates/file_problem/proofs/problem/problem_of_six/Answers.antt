@@ -12,11 +12,11 @@ returns-clause-problem c =
     let text = ap (λ (g : GroupsState). g.text) c.new.ensures in
     let short = subst (λ t. length t ≤ most_file_bytes) (sym text) c.requires.short in
     subst (λ t. IfOk c.read.result (λ (found : ProblemParts × FurtherRuns). HasFurther t found.0 found.1))
-    (ap₂ (λ form t. input_in form false most_file_bytes t) c.six_views.ensures text) (c.read.ensures.problem most_file_bytes short)
+    (ap₂ (λ form t. input_in form false most_file_bytes t) c.new-2.ensures text) (c.read.ensures.problem most_file_bytes short)
 
 pub returns-clause-fault : goal.returns-clause-fault
 returns-clause-fault c fault is =
     let text = ap (λ (g : GroupsState). g.text) c.new.ensures in
     let short = subst (λ t. length t ≤ most_file_bytes) (sym text) c.requires.short in
-    subst (λ t. IsFileFault t fault) (ap₂ (λ form t. input_in form false most_file_bytes t) c.six_views.ensures text)
+    subst (λ t. IsFileFault t fault) (ap₂ (λ form t. input_in form false most_file_bytes t) c.new-2.ensures text)
     (c.read.ensures.fault most_file_bytes short fault is)
