@@ -10,7 +10,7 @@ use column_lanes::{Column, style_of};
 use further_views::{Cut, Layer};
 use section_laws::cut_gap;
 use six_views::sight_frame;
-use solid_model::{Axis, Grid, Style, number_on};
+use solid_model::{Grid, Style, number_on};
 
 /// A depth is kept: each from the first one on, or that one alone where an area is cut there.
 fn is_kept(area: bool, first: usize, depth: usize) -> bool
@@ -38,8 +38,7 @@ fn kept_bits(area: bool, first: usize, depths: usize) -> u64
 pub fn kept_depths(grid: &Grid, layer: Layer, cut: Cut) -> Option<u64>
     ensures { IfSome result (KeepsDepths (coordinates_of grid.now) layer cut) }
 {
-    // A look at the grid's coordinates tells that they are few.
-    let _xs = grid.coordinates(Axis::X);
+    grid.known();
     let frame = sight_frame(layer);
     let sizes = grid.sizes();
     let Some(gap) = cut_gap(grid, frame, cut.at, cut.area) else {

@@ -6,7 +6,7 @@ use crate::sights::sights;
 use cell_rows::{BlockRows, RowSpans};
 use further_views::Layer;
 use six_views::sight_frame;
-use solid_model::{Axis, Choice, Memory, Problem};
+use solid_model::{Choice, Memory, Problem};
 use std::alloc::Global;
 use std::marker::Model;
 
@@ -64,8 +64,7 @@ impl<'a> DrawnView<'a> {
         ensures { IfOk result (IsViewOf problem.now layer) }
     {
         let grid = problem.grid();
-        // A look at the grid's coordinates tells that they ascend.
-        let _xs = grid.coordinates(Axis::X);
+        grid.known();
         let sizes = grid.sizes();
         let frame = sight_frame(layer);
         let (width, height) = (sizes.along(frame.right.axis), sizes.along(frame.up.axis));

@@ -7,9 +7,9 @@ ghost use Rattle.lemmas.specs.Lists.{Each};
 use crate::cuts::kept_depths;
 use crate::view_test::ViewTest;
 use cell_rows::BlockRows;
-use further_views::{AskedView, Layer};
+use further_views::AskedView;
 use six_views::shows;
-use solid_model::{Axis, Choice, Memory, Problem, ViewLines};
+use solid_model::{Choice, Memory, Problem};
 use std::alloc::Global;
 use std::marker::Model;
 
@@ -22,8 +22,7 @@ const FAST_TESTS: usize = 64;
 #[derive(Debug, Drop)]
 pub struct LayerTest<'a> {
     problem: &'a Problem,
-    layer: Layer,
-    shown: &'a ViewLines,
+    asked: &'a AskedView,
     fast: Option<ViewTest<'a>>,
 }
 
@@ -33,15 +32,10 @@ impl<'a> Model for LayerTest<'a> {
 
     ghost Value = { LayerAsked };
 
-    ghost view = { λ s. record {
-      problem = s.problem.now;
-      asked = record { layer = s.layer; runs = s.shown.now };
-    } };
+    ghost view = { λ s. record { problem = s.problem.now; asked = s.asked.now } };
 
-    ghost invariant = { λ s. IfSome s.fast (λ test. test ≡ record {
-      problem = s.problem.now;
-      asked = record { layer = s.layer; runs = s.shown.now };
-    }) };
+    ghost invariant = { λ s. IfSome s.fast (λ test. test
+        ≡ record { problem = s.problem.now; asked = s.asked.now }) };
 }
 
 /// The fast test of a layer; none where its cut leaves nothing of any solid. An `Err` is out of
@@ -56,15 +50,14 @@ fn fast_test<'a>(
     ensures { IfOk result (λ fast. IfSome fast (λ test. test
         ≡ record { problem = problem.now; asked = asked.now })) }
 {
-    let (layer, shown) = (asked.layer, &asked.lines);
-    let Some(cut) = layer.cut else {
-        let test = ViewTest::of(alloc, problem, rows, layer, None, shown)?;
+    let Some(cut) = asked.layer.cut else {
+        let test = ViewTest::of(alloc, problem, rows, asked, None)?;
         return Ok(Some(test));
     };
-    let Some(kept) = kept_depths(problem.grid(), layer, cut) else {
+    let Some(kept) = kept_depths(problem.grid(), asked.layer, cut) else {
         return Ok(None);
     };
-    let test = ViewTest::of(alloc, problem, rows, layer, Some(kept), shown)?;
+    let test = ViewTest::of(alloc, problem, rows, asked, Some(kept))?;
     Ok(Some(test))
 }
 
@@ -90,8 +83,7 @@ impl<'a> LayerTest<'a> {
         };
         Ok(LayerTest {
             problem,
-            layer: asked.layer,
-            shown: &asked.lines,
+            asked,
             fast,
         })
     }
@@ -106,15 +98,14 @@ impl LayerTest<'_> {
         ensures same { self.new ≡ self.old }
         ensures told { IfOk result (λ yes. IsTrue yes ↔ ShowsIn self.old choice.now) }
     {
-        let (problem, layer, shown) = (self.problem, self.layer, self.shown);
+        let (problem, asked) = (self.problem, self.asked);
         let grid = problem.grid();
-        // A look at the grid's coordinates tells that they ascend.
-        let _xs = grid.coordinates(Axis::X);
+        grid.known();
         if let Some(test) = &mut self.fast {
             return test.shows(alloc, choice);
         }
         let cells = problem.cells(alloc, choice)?;
-        shows(alloc, grid, layer, &cells, shown)
+        shows(alloc, grid, asked.layer, &cells, &asked.lines)
     }
 }
 

@@ -5,8 +5,8 @@ ghost use Rattle.std.specs.Prelude.{◌≡◌, IfOk};
 use crate::drawn_view::DrawnView;
 use crate::wanted_view::WantedView;
 use cell_rows::BlockRows;
-use further_views::Layer;
-use solid_model::{Choice, Memory, Problem, ViewLines};
+use further_views::AskedView;
+use solid_model::{Choice, Memory, Problem};
 use std::alloc::Global;
 use std::marker::Model;
 
@@ -40,23 +40,17 @@ impl<'a> ViewTest<'a> {
         alloc: Global,
         problem: &'a Problem,
         rows: &BlockRows<'_>,
-        layer: Layer,
+        asked: &'a AskedView,
         kept: Option<u64>,
-        shown: &'a ViewLines,
     ) -> Result<ViewTest<'a>, Memory>
         requires rows { rows.now ≡ problem.now.blocks }
-        requires kept { LayerKeeps (coordinates_of problem.now.grid) layer kept }
+        requires kept { LayerKeeps (coordinates_of problem.now.grid) asked.now.layer kept }
         ensures { IfOk result (λ test. test
-            ≡ record {
-              problem = problem.now;
-              asked = record { layer = layer; runs = shown.now };
-            }) }
+            ≡ record { problem = problem.now; asked = asked.now }) }
     {
-        // A look at the runs tells that they are runs.
-        let _level = shown.along(false).as_slice();
-        let _upright = shown.along(true).as_slice();
-        let view = DrawnView::of(alloc, problem, rows, layer, kept)?;
-        let wanted = WantedView::at(alloc, problem, layer, shown, 0, 0)?;
+        asked.known();
+        let view = DrawnView::of(alloc, problem, rows, asked.layer, kept)?;
+        let wanted = WantedView::at(alloc, problem, asked, 0, 0)?;
         Ok(ViewTest { view, wanted })
     }
 }

@@ -11,7 +11,7 @@ use crate::points::{across_of, point_bytes};
 use further_views::Layer;
 use redraw::runs_on;
 use six_views::{are_moved, is_farther, sight_frame, turned_places};
-use solid_model::{Axis, Grid, Memory, Run, Style, ViewLines};
+use solid_model::{Grid, Memory, Run, Style, ViewLines};
 use std::alloc::Global;
 
 /// The one coordinate is less than the other, so much farther.
@@ -128,8 +128,7 @@ pub fn wanted_bytes(
         (λ bytes. AreWantedBytes (coordinates_of grid.now) layer shown.now right up upright
         bytes.items)) }
 {
-    // A look at the grid's coordinates tells that they ascend.
-    let _xs = grid.coordinates(Axis::X);
+    grid.known();
     let frame = sight_frame(layer);
     let sizes = grid.sizes();
     let (width, height) = (sizes.along(frame.right.axis), sizes.along(frame.up.axis));

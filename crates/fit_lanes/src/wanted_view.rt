@@ -3,8 +3,8 @@
 ghost use Rattle.std.specs.Prelude.{◌≡◌, ◌↔◌, ◌&&◌, IsTrue, IfOk, MatchOption};
 
 use crate::wanted::wanted_bytes;
-use further_views::Layer;
-use solid_model::{Memory, Problem, ViewLines};
+use further_views::AskedView;
+use solid_model::{Memory, Problem};
 use std::alloc::Global;
 use std::marker::Model;
 
@@ -13,8 +13,7 @@ use std::marker::Model;
 #[derive(Debug, Drop)]
 pub struct WantedView<'a> {
     problem: &'a Problem,
-    layer: Layer,
-    shown: &'a ViewLines,
+    asked: &'a AskedView,
     right: usize,
     up: usize,
     level: Option<Vec<u8>>,
@@ -29,23 +28,21 @@ impl<'a> Model for WantedView<'a> {
     ghost Value = { WantedParts };
 
     ghost view = { λ s. record {
-      asked = record {
-        problem = s.problem.now;
-        asked = record { layer = s.layer; runs = s.shown.now };
-      };
+      asked = record { problem = s.problem.now; asked = s.asked.now };
       right = s.right;
       up = s.up;
     } };
 
     ghost invariant = { λ s. MatchOption s.level
-        (AreNeverDrawn (coordinates_of s.problem.now.grid) s.layer s.shown.now s.right s.up
-        false)
-        (λ v. AreWantedBytes (coordinates_of s.problem.now.grid) s.layer s.shown.now s.right
-        s.up false v.items)
+        (AreNeverDrawn (coordinates_of s.problem.now.grid) s.asked.now.layer s.asked.now.runs
+        s.right s.up false)
+        (λ v. AreWantedBytes (coordinates_of s.problem.now.grid) s.asked.now.layer
+        s.asked.now.runs s.right s.up false v.items)
         × MatchOption s.upright
-        (AreNeverDrawn (coordinates_of s.problem.now.grid) s.layer s.shown.now s.right s.up true)
-        (λ v. AreWantedBytes (coordinates_of s.problem.now.grid) s.layer s.shown.now s.right
-        s.up true v.items) };
+        (AreNeverDrawn (coordinates_of s.problem.now.grid) s.asked.now.layer s.asked.now.runs
+        s.right s.up true)
+        (λ v. AreWantedBytes (coordinates_of s.problem.now.grid) s.asked.now.layer
+        s.asked.now.runs s.right s.up true v.items) };
 }
 
 /// The bytes are the wanted ones.
@@ -73,27 +70,23 @@ impl<'a> WantedView<'a> {
     pub fn at(
         alloc: Global,
         problem: &'a Problem,
-        layer: Layer,
-        shown: &'a ViewLines,
+        asked: &'a AskedView,
         right: usize,
         up: usize,
     ) -> Result<WantedView<'a>, Memory>
         ensures { IfOk result (λ wanted. wanted ≡ record {
-          asked = record {
-            problem = problem.now;
-            asked = record { layer = layer; runs = shown.now };
-          };
+          asked = record { problem = problem.now; asked = asked.now };
           right = right;
           up = up;
         }) }
     {
         let grid = problem.grid();
+        let (layer, shown) = (asked.layer, &asked.lines);
         let level = wanted_bytes(alloc, grid, layer, shown, right, up, false)?;
         let upright = wanted_bytes(alloc, grid, layer, shown, right, up, true)?;
         Ok(WantedView {
             problem,
-            layer,
-            shown,
+            asked,
             right,
             up,
             level,
@@ -135,7 +128,7 @@ impl<'a> WantedView<'a> {
         if self.is_at(right, up) {
             return Ok(self.is_told(level, upright));
         }
-        let placed = WantedView::at(alloc, self.problem, self.layer, self.shown, right, up)?;
+        let placed = WantedView::at(alloc, self.problem, self.asked, right, up)?;
         let told = placed.is_told(level, upright);
         *self = placed;
         Ok(told)

@@ -7,7 +7,7 @@ ghost use Rattle.section_laws.specs.LeftCells.{DrawsWhatIsLeft, IsLeftFrom, Leav
 
 use crate::cut_cells::kept_cells;
 use crate::gaps::{first_gap, holds_left};
-use solid_model::{Axis, Frame, Grid, Memory};
+use solid_model::{Frame, Grid, Memory};
 use std::alloc::Global;
 
 /// The gap along a frame's sight that tells of all grid cells what a plane across the sight leaves:
@@ -46,8 +46,7 @@ pub fn cells_left(
         (λ kept. DrawsWhatIsLeft frame (coordinates_of grid.now) cells.now plane area
         kept.items)) }
 {
-    // A look at the grid's coordinates tells that they are few.
-    let _xs = grid.coordinates(Axis::X);
+    grid.known();
     let Some(gap) = cut_gap(grid, frame, plane, area) else {
         return Ok(None);
     };

@@ -22,7 +22,7 @@ pub number_on-first-requires : goal.number_on-first-requires
 number_on-first-requires c =
     let at : SFits w64 c.args.cut.at = search rules in
     let left = told_of _ _ _ _ c.in-Some.is (rw (to_z-of_z w64 c.args.cut.at at, c.sight_frame-frame.ensures) at c.cut_gap.ensures) in
-    let few = c.coordinates-xs.ensures.kept.2.few (sight_frame c.args.layer).away.axis in
+    let few = c.known.ensures.kept.2.few (sight_frame c.args.layer).away.axis in
     omega (arith, left.within)
 
 pub returns : goal.returns

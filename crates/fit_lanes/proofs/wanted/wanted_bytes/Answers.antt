@@ -33,19 +33,19 @@ size_is x which frame sizes others n same same_sizes is = is ∙ (λ t. same_siz
 
 pub wanted_styles-requires-clause-lines : goal.wanted_styles-requires-clause-lines
 wanted_styles-requires-clause-lines c =
-    subst (Ascends ◌<ℤ◌) (sym (c.deref.ensures.value ∙ c.in_ok-lines.ensures)) (turned_ordered c.args.grid.now c.coordinates-xs.ensures.kept c.args.layer c.across.result.axis)
+    subst (Ascends ◌<ℤ◌) (sym (c.deref.ensures.value ∙ c.in_ok-lines.ensures)) (turned_ordered c.args.grid.now c.known.ensures.kept c.args.layer c.across.result.axis)
 
 pub wanted_styles-requires-clause-ends : goal.wanted_styles-requires-clause-ends
 wanted_styles-requires-clause-ends c =
-    subst (Ascends ◌<ℤ◌) (sym (c.deref-2.ensures.value ∙ c.in_ok-ends.ensures)) (turned_ordered c.args.grid.now c.coordinates-xs.ensures.kept c.args.layer c.along.result.axis)
+    subst (Ascends ◌<ℤ◌) (sym (c.deref-2.ensures.value ∙ c.in_ok-ends.ensures)) (turned_ordered c.args.grid.now c.known.ensures.kept c.args.layer c.along.result.axis)
 
 pub wanted_styles-requires-clause-few_lines : goal.wanted_styles-requires-clause-few_lines
 wanted_styles-requires-clause-few_lines c =
-    subst (λ (zs : List ℤ). length zs ≤ 64) (sym (c.deref.ensures.value ∙ c.in_ok-lines.ensures)) (turned_few c.args.grid.now c.coordinates-xs.ensures.kept c.args.layer c.across.result.axis)
+    subst (λ (zs : List ℤ). length zs ≤ 64) (sym (c.deref.ensures.value ∙ c.in_ok-lines.ensures)) (turned_few c.args.grid.now c.known.ensures.kept c.args.layer c.across.result.axis)
 
 pub wanted_styles-requires-clause-few_ends : goal.wanted_styles-requires-clause-few_ends
 wanted_styles-requires-clause-few_ends c =
-    subst (λ (zs : List ℤ). length zs ≤ 64) (sym (c.deref-2.ensures.value ∙ c.in_ok-ends.ensures)) (turned_few c.args.grid.now c.coordinates-xs.ensures.kept c.args.layer c.along.result.axis)
+    subst (λ (zs : List ℤ). length zs ≤ 64) (sym (c.deref-2.ensures.value ∙ c.in_ok-ends.ensures)) (turned_few c.args.grid.now c.known.ensures.kept c.args.layer c.along.result.axis)
 
 pub returns-in-Some : goal.returns-in-Some
 returns-in-Some c =
@@ -69,7 +69,7 @@ returns-in-Some c =
     let are = subst (λ (ls : List ℤ). AreWantedStyles ls (turned_ends coordinates x u) (across_of u right up) (along_of u right up) (runs_along u c.args.shown.now) styles) lines
     (subst (λ (es : List ℤ). AreWantedStyles c.deref.result.now es (across_of u right up) (along_of u right up) (runs_along u c.args.shown.now) styles) ends
     (subst (λ (rs : List Run). AreWantedStyles c.deref.result.now c.deref-2.result.now (across_of u right up) (along_of u right up) rs styles) shown at)) in
-    bytes_wanted x coordinates (some c.args.grid.now c.coordinates-xs.ensures.kept) u c.args.shown.now right up styles bytes are
+    bytes_wanted x coordinates (some c.args.grid.now c.known.ensures.kept) u c.args.shown.now right up styles bytes are
     (subst (λ xs. ArePointBytes (width x (gaps_along coordinates)) (height x (gaps_along coordinates)) u xs bytes) c.deref-in-Some.ensures.value
     (subst (λ n. ArePointBytes n (height x (gaps_along coordinates)) u c.deref-in-Some.result.now bytes) wide
     (subst (λ n. ArePointBytes c.along-width.result n u c.deref-in-Some.result.now bytes) high c.in_ok-point_bytes-in-Some.ensures)))

@@ -19,7 +19,7 @@ kept_cells-requires c =
     let plane : SFits w64 c.args.plane = search rules in
     let told = rw (to_z-of_z w64 c.args.plane plane) at c.cut_gap.ensures in
     let left = told_of _ _ _ _ c.in-Some.is told in
-    let few = c.coordinates-xs.ensures.kept.2.few c.args.frame.away.axis in
+    let few = c.known.ensures.kept.2.few c.args.frame.away.axis in
     omega (arith, left.within)
 
 pub returns : goal.returns

@@ -40,7 +40,7 @@ invariant_of-result c =
     let upright : length c.in_ok-upright.upright.items ≡ (h + 1) * (w + 1) = omega (arith, c.in_ok-upright.ensures.len) in
     let busy : List ℕ = c.in_ok-busy.busy.items in
     record {
-      grid = subst IsGrid at_grid c.coordinates-xs.ensures.kept;
+      grid = subst IsGrid at_grid c.known.ensures.kept;
       keeps = c.requires.kept;
       wide = wide;
       high = high;

@@ -7,7 +7,7 @@ use Rattle.fit_lanes.proofs.wanted_view.WantedView.is_told.Goals as goal
 pub returns : goal.returns
 returns c =
     let own : WantedParts = record {
-      asked = record { problem = c.self.inside.problem.now; asked = record { layer = c.self.inside.layer; runs = c.self.inside.shown.now } };
+      asked = record { problem = c.self.inside.problem.now; asked = c.self.inside.asked.now };
       right = c.self.inside.right;
       up = c.self.inside.up;
     } in
