@@ -46,7 +46,7 @@ fn answer_problem<R: Threads + Wait + Sync, G: Gate, K: Sink>(
     let FoundProblem { sought, rest } = found;
     match question {
         Question::AllSolids(all) => answer_all(alloc, crew, all, profile, sought, sink),
-        Question::OneSolid(one) => answer_one(alloc, crew, one, profile, sought, sink),
+        Question::OneSolid(one) => answer_one(alloc, crew, *one, profile, sought, sink),
         Question::Log(limits) => answer_log(alloc, crew, limits, profile, sought, sink),
         Question::Check => answer_check(alloc, profile, &sought, rest.as_slice(), sink),
         Question::Blocks => answer_blocks(alloc, profile, &sought, sink),

@@ -24,7 +24,7 @@ use tv_base::{Gate, Sink};
 /// Writes the solid of the number among those that a whole search found, or that there are fewer.
 fn write_numbered<K: Sink>(
     alloc: Global,
-    one: &OneSolid,
+    one: OneSolid,
     decimals: u8,
     searched: &Searched,
     sink: &mut K,
@@ -32,12 +32,10 @@ fn write_numbered<K: Sink>(
     requires { decimals ≤ most_decimals }
     ensures { (solids : List (List Cell))
         → FillSolids searched.now.problem searched.now.ended.solids solids
-        → EndsWriting (AnswersNumbered (writes_of one.now.export decimals) one.now.which solids)
-        (AnswersNumbered (writes_of one.now.export decimals) one.now.which solids)
+        → EndsWriting (AnswersNumbered (writes_of one.export decimals) one.which solids)
+        (AnswersNumbered (writes_of one.export decimals) one.which solids)
         (K.held sink.old) (K.held sink.new) (Rose (K.faults sink.old) (K.faults sink.new)) result }
 {
-    // A look that tells that numbers are counted from 1.
-    let one = *one;
     let solids = searched.ended().solids.as_slice();
     let place = one.which as usize - 1;
     if place < solids.len() {
@@ -55,12 +53,12 @@ fn write_numbered<K: Sink>(
 pub fn answer_one<R: Threads + Wait + Sync, G: Gate, K: Sink>(
     alloc: Global,
     crew: &Crew<'_, R, G>,
-    one: &OneSolid,
+    one: OneSolid,
     profile: &Profile,
     sought: Sought,
     sink: &mut K,
 ) -> Status
-    ensures { AnswersQuestion (question.OneSolid one.now) profile.now sought (K.held sink.old)
+    ensures { AnswersQuestion (question.OneSolid one) profile.now sought (K.held sink.old)
         (K.held sink.new) (Rose (K.faults sink.old) (K.faults sink.new)) result }
 {
     let searched = search_fitting(alloc, sought, one.limits, crew)?;

@@ -16,7 +16,7 @@ use Rattle.recon_run.proofs.one_solid.answer_one.Goals as goal
 
 pub returns-in-Whole : goal.returns-in-Whole
 returns-in-Whole g c t by =
-    let s = c.in_ok-searched.searched in let one = c.args.one.now in let input = input_of c.args.profile.now t in
+    let s = c.in_ok-searched.searched in let one = c.args.one in let input = input_of c.args.profile.now t in
     let held = g.K.Sink.held c.args.sink.now in let now = g.K.Sink.held c.write_numbered.new.sink in
     let rose = Rose (g.K.Sink.faults c.args.sink.now) (g.K.Sink.faults c.write_numbered.new.sink) in
     let s_tells = IsAnEnd (search_for_one (writes_of one.export) one.which one.limits) (search_for_one (writes_of one.export) one.which one.limits).tells input in
@@ -29,7 +29,7 @@ returns-in-Whole g c t by =
 
 pub returns : goal.returns
 returns g c t by =
-    let s = c.in_ok-searched.searched in let one = c.args.one.now in let input = input_of c.args.profile.now t in
+    let s = c.in_ok-searched.searched in let one = c.args.one in let input = input_of c.args.profile.now t in
     let told = c.as_slice.result.now in let answer = c.at_end.result in
     let s_tells = IsAnEnd (search_for_one (writes_of one.export) one.which one.limits) (search_for_one (writes_of one.export) one.which one.limits).tells input in
     let kind : s.ended.kind ≡ c.in_default.kind = sym (ap (λ (e : SearchEnd). e.kind) (c.behind-searched.view_is ∙ c.ended.ensures.same)) ∙ c.in_default.kind-is in

@@ -18,7 +18,7 @@ use Rattle.recon_run.proofs.one_solid.write_numbered.Goals as goal
 
 pub returns-in_err-write : goal.returns-in_err-write
 returns-in_err-write g c solids filled =
-    let writes = writes_of c.args.one.now.export c.args.decimals in let which = c.args.one.now.which in
+    let writes = writes_of c.args.one.export c.args.decimals in let which = c.args.one.which in
     let p = c.problem.result.now in let choices = c.as_slice-solids.result.now in
     let same : choices ≡ c.args.searched.now.ended.solids =
     c.as_slice-solids.ensures.value ∙ ap (λ (e : SearchEnd). e.solids) (c.behind-searched.view_is ∙ c.ended.ensures.same) in
@@ -30,12 +30,12 @@ returns-in_err-write g c solids filled =
     rw (failed.1, failed.2) (refused (Unit {0}) Answer (λ _. writes s) (λ _. writes s)
     (AnswersNumbered writes which solids) (AnswersNumbered writes which solids) (g.K.Sink.held c.args.sink.now) (g.K.Sink.held c.write.new.sink)
     (Rose (g.K.Sink.faults c.args.sink.now) (g.K.Sink.faults c.write.new.sink))
-    (λ _ text told. (answers.Done, numbered writes which p choices solids are choice c.args.one.now.some c.if-place-solids.true at text told))
+    (λ _ text told. (answers.Done, numbered writes which p choices solids are choice c.args.one.some c.if-place-solids.true at text told))
     c.in_err-write.field-0.0 (c.in_err-write.ensures s one))
 
 pub returns-in_ok-write : goal.returns-in_ok-write
 returns-in_ok-write g c solids filled =
-    let writes = writes_of c.args.one.now.export c.args.decimals in let which = c.args.one.now.which in
+    let writes = writes_of c.args.one.export c.args.decimals in let which = c.args.one.which in
     let p = c.problem.result.now in let choices = c.as_slice-solids.result.now in
     let same : choices ≡ c.args.searched.now.ended.solids =
     c.as_slice-solids.ensures.value ∙ ap (λ (e : SearchEnd). e.solids) (c.behind-searched.view_is ∙ c.ended.ensures.same) in
@@ -44,16 +44,16 @@ returns-in_ok-write g c solids filled =
     let at : slice_get choices (which - 1) ≡ Some choice = slice_get_read choices (length choices) (which - 1) choice refl c.if-place-solids.true c.index-solids-place.is in
     let (s, there, one) = filled_at p choices solids are (which - 1) choice at in
     let (text, told, appends) = c.in_ok-write.ensures s one in
-    (text, numbered writes which p choices solids are choice c.args.one.now.some c.if-place-solids.true at text told, appends)
+    (text, numbered writes which p choices solids are choice c.args.one.some c.if-place-solids.true at text told, appends)
 
 pub returns-in_ok-text : goal.returns-in_ok-text
 returns-in_ok-text g c solids filled =
-    let writes = writes_of c.args.one.now.export c.args.decimals in let which = c.args.one.now.which in
+    let writes = writes_of c.args.one.export c.args.decimals in let which = c.args.one.which in
     let s = c.args.searched.now in let choices = c.as_slice-solids.result.now in
     let same : choices ≡ s.ended.solids =
     c.as_slice-solids.ensures.value ∙ ap (λ (e : SearchEnd). e.solids) (c.behind-searched.view_is ∙ c.ended.ensures.same) in
     let many : length choices ≡ length solids = ap (λ (cs : List (List Bool)). length cs) same ∙ filled_count s.problem s.ended.solids solids filled in
-    let few : length solids < which = (let some = c.args.one.now.some in omega (arith, c.if-place-solids.false, many, some)) in
+    let few : length solids < which = (let some = c.args.one.some in omega (arith, c.if-place-solids.false, many, some)) in
     let told : (answer : Answer) (text : List ℕ) → IsReply answers.NoSolid c.as_slice.result.now answer text → AnswersNumbered writes which solids answer text =
     λ answer text is. (
       is.0 ∙ numbered_lacks which (length solids) few,
