@@ -13,7 +13,7 @@ use crate::layer_line::LayerLine;
 use crate::layers::Layers;
 use crate::linetype::{Linetype, first_linetype};
 use crate::named::Named;
-use crate::names::first_layer;
+use crate::names::take_layer;
 use crate::pen::Pen;
 use crate::shape::{Shape, take_more};
 use dxf_groups::Pair;
@@ -76,7 +76,7 @@ impl Facts {
     pub fn take(&mut self, pair: &Pair, value: &[u8], form: ReadingForm) -> Result<(), Memory>
         ensures { OnOk result (self.new ≡ with_fact form (text_pair pair.now value.now) self.old) }
     {
-        self.layer = first_layer(self.layer, 8, form, pair, value);
+        take_layer(&mut self.layer, 8, form, pair, value);
         self.paper = first_paper(self.paper, pair, value);
         self.linetype = first_linetype(self.linetype, pair, value);
         take_more(&mut self.shape, self.line, pair, value, form.decimals())

@@ -3,7 +3,7 @@
 use crate::form::ReadingForm;
 use crate::linetype::{Linetype, first_linetype};
 use crate::named::Named;
-use crate::names::first_layer;
+use crate::names::take_layer;
 use dxf_groups::Pair;
 
 /// What counts of a layer's entry.
@@ -40,8 +40,10 @@ impl LayerFacts {
     pub fn with(self, form: ReadingForm, pair: &Pair, value: &[u8]) -> LayerFacts
         ensures { result ≡ with_layer_fact form (text_pair pair.now value.now) self }
     {
+        let mut name = self.name;
+        take_layer(&mut name, 2, form, pair, value);
         LayerFacts {
-            name: first_layer(self.name, 2, form, pair, value),
+            name,
             linetype: first_linetype(self.linetype, pair, value),
         }
     }

@@ -152,21 +152,19 @@ pub fn layer_on(form: ReadingForm, value: &[u8]) -> Named
     }
 }
 
-/// What the name of an entry's layer tells, where it is known, or one more pair with this value and
-/// this code tells it.
+/// Takes what the name of an entry's layer tells, where it isn't known, and one more pair with this
+/// value and this code tells it. It stays where it is, since most pairs tell nothing of it.
 #[inline(always)]
-pub fn first_layer(
-    known: Option<Named>,
+pub fn take_layer(
+    known: &mut Option<Named>,
     code: u16,
     form: ReadingForm,
     pair: &Pair,
     value: &[u8],
-) -> Option<Named>
-    ensures { result ≡ or_first code (layer_on form) (text_pair pair.now value.now) known }
+)
+    ensures { known.new ≡ or_first code (layer_on form) (text_pair pair.now value.now) known.old }
 {
     if known.is_none() && has_code(pair, code) {
-        Some(layer_on(form, value))
-    } else {
-        known
+        *known = Some(layer_on(form, value));
     }
 }
