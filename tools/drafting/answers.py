@@ -104,11 +104,11 @@ def answer_of(text: str, most: int | None = None) -> Answer:
     return Answer(head, solids, count, len(face[3].partition(".")[2]) if face else 0)
 
 
-def have_views(count: int, missing: str = "") -> str:
-    """How many solids have the views, in words; where one of the three isn't drawn, that there are two."""
+def have_views(count: int, missing: str = "", views: str = "these views") -> str:
+    """How many solids have what is drawn, in words; where one of the three main views isn't drawn, that there are two."""
     if missing:
-        return "Two views: " + {0: "no solid has them", 1: "one solid has them"}.get(count, f"{count:,} solids have them")
-    return {0: "No solid has these views", 1: "One solid has these views"}.get(count, f"{count:,} solids have these views")
+        return f"Two {views.removeprefix('these ')}: " + {0: "no solid has them", 1: "one solid has them"}.get(count, f"{count:,} solids have them")
+    return {0: f"No solid has {views}", 1: f"One solid has {views}"}.get(count, f"{count:,} solids have {views}")
 
 
 def turned_round(solid: Solid, width: int) -> Solid:

@@ -19,7 +19,7 @@ from .noted import Note, Tell
 from .pairs import TwoReadings
 from .panels import Sheet, sheet_of
 from .paper import Paper
-from .section_layers import layers_in
+from .section_layers import layers_in, views_told
 
 # What recon passes over and a sheet is compared with: its sizes, and which views are sections.
 TELLING = ("DIMENSION", "HATCH")
@@ -33,8 +33,8 @@ SHEETS = ("Binary", "NotWhole", "Linetype", "Geometry", "EmptyView", "TooManyLin
 
 class Asked(NamedTuple):
     """What was asked, and the answer: the drawing that the program read, the lines of that, with how many decimals, how it stands for
-    the sheet, the run, and where it was made of a sheet the way back to that; where rounds were squared off also what came of it; and of a
-    document of FreeCAD its page."""
+    the sheet, the run, and where it was made of a sheet the way back to that; where rounds were squared off also what came of it; of a document of
+    FreeCAD its page; and whether its sections were to be read."""
 
     data: bytes
     lines: list[str]
@@ -44,6 +44,7 @@ class Asked(NamedTuple):
     paper: Paper | None = None
     rounds: Readings | None = None
     page: documents.Page | None = None
+    with_sections: bool = False
 
     @property
     def kept(self) -> list[Kept]:
@@ -54,6 +55,11 @@ class Asked(NamedTuple):
     def missing(self) -> str:
         """The main view that isn't drawn, where the other two are."""
         return missing_in(views_of(self.lines))
+
+    @property
+    def views(self) -> str:
+        """What it shows, in words."""
+        return views_told(self.lines, self.with_sections)
 
     def sheet(self) -> Sheet:
         """The strokes of its views, which know the sheet that they were made of."""
@@ -173,7 +179,7 @@ def ask(path: str | None, arguments: argparse.Namespace, tell: Tell, command: tu
         if missing := missing_in(views_of(lines)):
             tell(noted.found(f"two views, without {missing}"))
     rounds = answering.of_drawing(sheet.Drawn(data.decode(), decimals, origin_of(lines)), given, ask_all(arguments)) if given and not fault else None
-    return Asked(data, lines, decimals, origin_of(lines), run, None, rounds)
+    return Asked(data, lines, decimals, origin_of(lines), run, None, rounds, None, arguments.sections)
 
 
 def is_said_of_sheet(arguments: argparse.Namespace) -> bool:
@@ -316,4 +322,4 @@ def of_sheet(path: str | None, arguments: argparse.Namespace, tell: Tell, comman
     lines = lines_within(data)
     words = [*command, *views_words(lines), *sections_words(command, arguments), *decimals_words(command, drawn.decimals), *words_of(arguments)]
     run = program.run(program.find(arguments.program), words, data, arguments.seconds)
-    return Asked(data, lines, drawn.decimals, drawn.origin, run, drawn.paper, rounds, drawn.page)
+    return Asked(data, lines, drawn.decimals, drawn.origin, run, drawn.paper, rounds, drawn.page, arguments.sections)

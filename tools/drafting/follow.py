@@ -30,7 +30,7 @@ from .means import Solids, all_means, best_first
 from .messages import Refused, many, say
 from .noted import Note
 from .panels import FRAMES, sheet_of
-from .section_layers import layer_of
+from .section_layers import layer_of, views_told
 from .section_pictures import drawn_sections
 from .shown import Units
 from .turns import MAKE_WAY, STOP
@@ -221,7 +221,8 @@ class Search:
         if FAULT.fullmatch(self.head):
             yield from fault_events(self.lines, Units(decimals, origin_of(self.lines)), self.head, arguments.sections)
         elif self.head:
-            ended = shown.head_told(self.head, len(self.shown), missing_in(views_of(self.lines)), self.rounds)
+            views = views_told(self.lines, self.with_sections)
+            ended = shown.head_told(self.head, len(self.shown), missing_in(views_of(self.lines)), self.rounds, views)
             yield end_event("cut" if CUT.fullmatch(self.head) else "whole", ended)
         else:
             late = f"recon took longer than {arguments.seconds:g} seconds" if self.is_late else ""

@@ -28,6 +28,7 @@ from .drawing import decimals_of, lines_within, missing_in, origin_of, views_of
 from .follow import Event, Events
 from .given import given_in
 from .messages import Refused, say, write_result
+from .section_layers import views_told
 from .shown import Units
 
 NAME = "page"
@@ -156,7 +157,8 @@ def answer_told(lines: list[str], text: str, its: Blocks | None, with_sections: 
         yield from follow.planes_events(lines, its, units) if with_sections else ()
         yield follow.solids_event(choices)
     count = answer.listed if rounds is None else len(choices)
-    yield follow.end_event("cut" if CUT.fullmatch(head) else "whole", shown.head_told(head, count, missing_in(views), rounds))
+    ended = shown.head_told(head, count, missing_in(views), rounds, views_told(lines, with_sections))
+    yield follow.end_event("cut" if CUT.fullmatch(head) else "whole", ended)
     if its and len(choices) > 1:
         yield follow.means_event(its, choices, lines, units.decimals)
 

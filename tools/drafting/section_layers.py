@@ -46,6 +46,11 @@ def layers_in(lines: list[str]) -> list[str]:
     return list(sections_drawn(lines))
 
 
+def views_told(lines: list[str], with_sections: bool) -> str:
+    """What a drawing shows, in words: its views, and its sections where these are read."""
+    return "these views and sections" if with_sections and layers_in(lines) else "these views"
+
+
 def sections_of(lines: list[str], decimals: int) -> dict[Section, list[Line]]:
     """The lines of a drawing's sections that recon reads, those of layers that name one section together: dashed ones it doesn't."""
     found: dict[Section, list[Line]] = defaultdict(list)

@@ -30,7 +30,7 @@ from .given import given_in
 from .means import Means, Solids, all_means, best_first
 from .messages import Progress, Refused, many, say, write_result
 from .panels import AXES, DASHED, FRAMES, SOLID, STYLES, Sheet, Shown, sheet_of, shown_of, strokes_shown
-from .section_layers import Layer, Section, layers_in, named
+from .section_layers import Layer, Section, layers_in, named, views_told
 
 NAME = "settle"
 HELP = "what further view or section tells the solids of a drawing apart"
@@ -397,7 +397,8 @@ def run(arguments: argparse.Namespace) -> int:
         raise Refused(f"there is no solid {arguments.meant}: {many(len(answer.solids), 'solid')} listed")
     sheet, solids, views, sections = looked_at(case)
     shown = sections if arguments.all else sections[:SHOWN]
-    rows = [f"{have_views(len(answer.solids), ''.join(map(sheet.name, sheet.missing)))}.", *table(best_first([*views, *shown]), sheet, arguments.meant)]
+    have = have_views(len(answer.solids), ''.join(map(sheet.name, sheet.missing)), views_told(case.lines, bool(arguments.sections)))
+    rows = [f"{have}.", *table(best_first([*views, *shown]), sheet, arguments.meant)]
     if len(shown) < len(sections):
         rows.append(f"({len(sections) - len(shown)} further sections: {option('all')})")
     meant = Meant([], [], [], [])

@@ -90,7 +90,7 @@ def cut_told(what: str, limit: int, count: int) -> str:
     return verdict("undecided", "Not decided", text, f"{known} More may be found with a higher limit.")
 
 
-def head_told(head: str, count: int, missing: str = "", rounds: Readings | None = None) -> str:
+def head_told(head: str, count: int, missing: str = "", rounds: Readings | None = None, views: str = "these views") -> str:
     """How a search ended, with so many solids, and which main view isn't drawn; its own figures stand below, small. Of a sheet with rounds
     those solids count that are kept."""
     made = f" {rounds.made}," if rounds else ""
@@ -98,18 +98,18 @@ def head_told(head: str, count: int, missing: str = "", rounds: Readings | None 
     if cut:
         words = cut_told(cut[1], int(cut[2]), count)
     elif rounds and rounds.elsewhere:
-        words = verdict("ambiguous", "Ambiguous", f"{count + rounds.elsewhere:,} solids{made} have these views{rounds.where}, of which those are shown "
+        words = verdict("ambiguous", "Ambiguous", f"{count + rounds.elsewhere:,} solids{made} have {views}{rounds.where}, of which those are shown "
                         "that are kept in one reading of the sheet.")
     elif count > 1:
-        ambiguous = f"{count:,} solids{made} have these views{rounds.where}" if rounds else have_views(count, missing)
+        ambiguous = f"{count:,} solids{made} have {views}{rounds.where}" if rounds else have_views(count, missing, views)
         words = verdict("ambiguous", "Ambiguous", f"{ambiguous}.")
     elif count:
-        unique = f"One solid{made} has these views{rounds.where}" if rounds else have_views(1, missing)
+        unique = f"One solid{made} has {views}{rounds.where}" if rounds else have_views(1, missing, views)
         words = verdict("unique", "Unique", f"{unique}.")
     elif rounds:
-        words = verdict("undecided", "Not decided", f"No solid is found that is{made.rstrip(',')} and has these views.")
+        words = verdict("undecided", "Not decided", f"No solid is found that is{made.rstrip(',')} and has {views}.")
     else:
-        words = verdict("impossible", "Impossible", f"{have_views(0, missing)}.")
+        words = verdict("impossible", "Impossible", f"{have_views(0, missing, views)}.")
     return words + paragraph(f"The program's own words: <code>{html.escape(head)}</code>", "muted figures")
 
 

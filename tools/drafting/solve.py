@@ -43,9 +43,9 @@ def count_told(asked: asking.Asked, head: str, listed: int) -> list[str]:
     """How many solids there are; and where the search was cut, by which limit and what to do."""
     cut = CUT.fullmatch(head)
     if not cut:
-        return [f"{have_views(listed, asked.missing)}{'; ' if asked.missing else ': '}the search was whole."]
+        return [f"{have_views(listed, asked.missing, asked.views)}{'; ' if asked.missing else ': '}the search was whole."]
     are = "there are more" if cut[1] == "solids" else "there may be more"
-    two = "Two views: " if asked.missing else ""
+    two = f"Two {asked.views.removeprefix('these ')}: " if asked.missing else ""
     return [f"{two}{many(listed, 'solid')} found, and {are}: the search was cut at its limit of {int(cut[2]):,} {cut[1]}; "
             f"{asking.way_out(cut)}."]
 
@@ -68,9 +68,9 @@ def count_rounded(asked: asking.Asked, rounds: Readings, first: Answered) -> lis
         head = first.run.text.partition("\n")[0]
         return count_told(asked, head, count)
     if not count:
-        return [f"No solid is found that is {rounds.made}, and has these views."]
+        return [f"No solid is found that is {rounds.made}, and has {asked.views}."]
     many_told = "One solid" if count == 1 else f"{count:,} solids"
-    return [f"{many_told} {rounds.made}, {'has' if count == 1 else 'have'} these views{rounds.where}: the search was whole."]
+    return [f"{many_told} {rounds.made}, {'has' if count == 1 else 'have'} {asked.views}{rounds.where}: the search was whole."]
 
 
 def rounded_told(asked: asking.Asked, rounds: Readings, listed: int) -> list[str]:

@@ -11,7 +11,7 @@ from fractions import Fraction
 from typing import NamedTuple
 
 from . import program, trials
-from .answers import Solid, answer_of
+from .answers import Solid, answer_of, have_views
 from .cells import grid_round
 from .drawing import Line
 from .messages import Progress, Refused, many
@@ -128,9 +128,11 @@ def otherwise_told(ask: Callable[[Drawn], trials.Outcome], further: Drawn, decim
     return rows if rows or not ways else ["None has them without one of the sections, or with it seen from the other side or mirrored."]
 
 
-def told(path: pathlib.Path, words: list[object], sheet: Sheet, drawn: Mapping[Layer, Sequence[Line]], main: bytes, listed: str) -> list[str]:
+def told(
+    path: pathlib.Path, words: list[object], sheet: Sheet, drawn: Mapping[Layer, Sequence[Line]], main: bytes, listed: str, views: str
+) -> list[str]:
     """What is told of a drawing with such further views and sections, told by their lines, where the program lists these solids of its main
-    views, which are the lines of another file."""
+    views, which are the lines of another file; such words say what all of it shows."""
     strokes = {layer: strokes_of(layer_of(layer, sheet.decimals), its, sheet.decimals) for layer, its in drawn.items()}
     further = {layer: shown_by(its) for layer, its in strokes.items()}
 
@@ -151,7 +153,8 @@ def told(path: pathlib.Path, words: list[object], sheet: Sheet, drawn: Mapping[L
     if not unlike[nearest]:
         raise Refused("the program says that no solid has these views, and one was found here that has them")
     counts = ", ".join(f"{many(count, 'has', 'have')} {layer_of(layer, sheet.decimals)}" for layer, count in fitting.items())
-    rows = [f"No solid has these views. {many(len(solids), 'solid has', 'solids have')} the {'two' if sheet.missing else 'three'} main ones; of these {counts}.",
+    main_views = f"the {'two' if sheet.missing else 'three'} main views"
+    rows = [f"{have_views(0, views=views)}. {many(len(solids), 'solid has', 'solids have')} {main_views}; of these {counts}.",
             *otherwise_told(ask, further, sheet.decimals),
             f"Nearest is solid {nearest + 1} of them, for which there would have to be drawn otherwise:"]
     rows += [f"  {stretch_told(it, sheet, strokes[it.layer])}" for it in unlike[nearest]]

@@ -351,7 +351,7 @@ def told_of(
     alone = program.run(path, [*tried.words, "--nodes", program.MOST_NODES, "--solids", program.MOST_SOLIDS], main)
     head = alone.text.partition("\n")[0]
     if not head.startswith("whole 0 "):
-        return unfit.told(path, tried.words, sheet, further, main, alone.text), []
+        return unfit.told(path, tried.words, sheet, further, main, alone.text, asked.views), []
     rows, found = looked_at(path, sheet, head, limits, tell)
     names = f"{' and '.join(layer_of(it, asked.decimals) for it in further)} {'is' if len(further) == 1 else 'are'}"
     return [f"{rows[0]} Its {'two' if sheet.missing else 'three'} main views alone have none: {names} left out here.", *rows[1:]], found
@@ -361,7 +361,7 @@ def rounds_told(asked: asking.Asked) -> list[str]:
     """What is told of a sheet with rounds of whose squared drawing there are solids."""
     assert asked.rounds
     rows, count = asked.rounds.told(), len(asked.kept)
-    return [f"Nothing is wrong: {many(count, 'solid')} {'has' if count == 1 else 'have'} these views." if count else "No solid is kept.", *rows]
+    return [f"Nothing is wrong: {many(count, 'solid')} {'has' if count == 1 else 'have'} {asked.views}." if count else "No solid is kept.", *rows]
 
 
 def run(arguments: argparse.Namespace) -> int:
@@ -373,7 +373,7 @@ def run(arguments: argparse.Namespace) -> int:
     if not head.startswith("whole 0 "):
         count = answer_of(asked.run.text, 0).listed
         more = "" if WHOLE.fullmatch(head) else " at least"
-        write_result(f"Nothing is wrong: {many(count, 'solid')}{more} {'has' if count == 1 else 'have'} these views.\n", None)
+        write_result(f"Nothing is wrong: {many(count, 'solid')}{more} {'has' if count == 1 else 'have'} {asked.views}.\n", None)
         return 0
     limits = Limits(arguments.runs, arguments.search, arguments.processes)
     path = program.find(arguments.program)

@@ -175,7 +175,7 @@ class Why(InAFolder):
         ended = draft("why", self.file)
         self.assertEqual(ended.status, 0, ended.said)
         rows = ended.out.splitlines()
-        self.assertEqual(rows[0], "No solid has these views. 3 solids have the three main ones; of these 0 have LEFT.")
+        self.assertEqual(rows[0], "No solid has these views. 3 solids have the three main views; of these 0 have LEFT.")
         self.assertEqual(rows[1], "Nearest is solid 1 of them, for which there would have to be drawn otherwise:")
         self.assertRegex(rows[2], r"^  LEFT \(-12, 1\) to \(-11, 1\) \(line \d+ of the file\): drawn solid; the solid shows dashed$")
         self.assertEqual(rows[3:], ["  so drawn, the program lists 1 solid"])
@@ -185,7 +185,7 @@ class Why(InAFolder):
         square = "".join(entity("REAR", SOLID, *ends) for ends in itertools.pairwise(corners))
         self.file.write_bytes(with_entities(FROM_LEFT.read_bytes(), [square]))
         rows = draft("why", self.file).out.splitlines()
-        self.assertEqual(rows[0], "No solid has these views. 3 solids have the three main ones; of these 1 has LEFT, 0 have REAR.")
+        self.assertEqual(rows[0], "No solid has these views. 3 solids have the three main views; of these 1 has LEFT, 0 have REAR.")
         self.assertTrue(all(re.match(r"  REAR .*: not drawn; the solid shows (solid|dashed)$", row) for row in rows[2:-1]), rows)
         self.assertEqual(rows[-1], "  so drawn, the program lists 1 solid")
 

@@ -58,6 +58,7 @@ class Asked(InAFolder):
             with self.subTest(layers):
                 self.quartered(layers)
                 self.assertEqual(self.choices("--sections"), wanted)
+                self.assertIn("One solid has these views and sections: the search was whole.", draft("solve", self.file, "--sections").out)
                 ended = draft("solve", self.file)
                 self.assertIn("3 solids have these views", ended.out)
                 told = " and ".join(layers)
@@ -146,7 +147,7 @@ class Why(InAFolder):
         self.quartered({"SECTION_FRONT_1": MIRRORED})
         rows = self.why()
         self.assertEqual(rows[:3], [
-            "No solid has these views. 3 solids have the three main ones; of these 0 have SECTION_FRONT_1.",
+            "No solid has these views and sections. 3 solids have the three main views; of these 0 have SECTION_FRONT_1.",
             "Without SECTION_FRONT_1: the program lists 3 solids.",
             "With SECTION_FRONT_1 mirrored: the program lists 1 solid.",
         ])
@@ -167,7 +168,7 @@ class Why(InAFolder):
 
     def test_nothing_is_wrong(self) -> None:
         self.quartered({"SECTION_FRONT_1": FALLING})
-        self.assertEqual(self.why(), ["Nothing is wrong: 1 solid has these views."])
+        self.assertEqual(self.why(), ["Nothing is wrong: 1 solid has these views and sections."])
 
 
 @needs_program()
@@ -219,7 +220,7 @@ class Settle(InAFolder):
         ended = draft("settle", self.folder / "none.dxf")
         self.assertEqual(ended.status, 1)
         said = self.voids("--sections", "--write", self.out, AREA_REAR_2=AREA)
-        self.assertIn("7 solids have these views.", said)
+        self.assertIn("7 solids have these views and sections.", said)
         self.assertIn("Checked: of the drawing with these lines the program lists 1 solid, just that.", said)
         ended = draft("settle", self.file, "--meant", 1)
         self.assertEqual((ended.status, ended.out), (1, ""))

@@ -204,7 +204,7 @@ class SectionSheets(unittest.TestCase):
             with self.subTest(words):
                 arguments = PARSER.parse_args(["solve", str(self.file)])
                 asked = asking.ask(str(self.file), arguments, tell_none)
-                self.assertEqual(solve.told(asked, 1), ["No solid has these views: the search was whole."])
+                self.assertEqual(solve.told(asked, 1), ["No solid has these views and sections: the search was whole."])
                 self.assertEqual(ruled_out.told(asked, arguments)[0], "The views alone have 1 solid: what the sections show rules it out.")
 
     def test_two_sections(self) -> None:
