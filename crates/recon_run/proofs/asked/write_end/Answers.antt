@@ -1,5 +1,6 @@
 -- How the search ended is told, and the solids that are listed.
-use Rattle.std.proofs.Common.{◌≡◌, ◌∙◌, List, ℕ, Bool, Err, length, ap, refl, subst, subst₂, sym}
+use Rattle.std.proofs.Common.{◌≡◌, ◌∙◌, List, ℕ, Bool, Err, length, ap, inl, refl, subst, subst₂, sym}
+use Rattle.std.proofs.KnownBytes.{Keeps-refl}
 use Rattle.std.proofs.lemmas.Result.{err_from_is_err_and}
 use Rattle.std.specs.Arc.{arc_value}
 use Rattle.std.specs.Io.KnownBytes.{Appends}
@@ -47,6 +48,11 @@ returns-in_ok-write_searched-in-Ended-clause-ends g c solids filled =
     c.of-searched.ensures c.in_ok-write_searched-in-Ended.ensures.ends solids here in
     let right : c.at_end.result ≡ end_answer ended.kind = c.at_end.ensures ∙ ap (λ (e : SearchEnd). end_answer e.kind) c.ended.view_is in
     (text, subst (λ (e : EndOfSearch). TellsEndOf TellsAll d p limits e solids c.at_end.result text) (sym c.in-Ended.is) (right, told), appends)
+
+pub returns-in_err-head-in-Stopped-clause-ends : goal.returns-in_err-head-in-Stopped-clause-ends
+returns-in_err-head-in-Stopped-clause-ends g c solids filled =
+    let failed = err_from_is_err_and c.from_residual-in_err-head-in-Stopped.result c.from_residual-in_err-head-in-Stopped.ensures.1 in
+    rw (failed.1, failed.2) (inl (Keeps-refl (g.K.Sink.held c.args.sink.now)))
 
 pub returns-in_err-write_listed-in-Stopped-clause-ends : goal.returns-in_err-write_listed-in-Stopped-clause-ends
 returns-in_err-write_listed-in-Stopped-clause-ends g c solids filled =
