@@ -17,8 +17,8 @@ from .rounded import Drawn, Layer, Strip, by_rounds, spot, volume_of
 from .rounds import Quarter, Slant
 from .solids import shape_of
 
-# How far, of the whole, FreeCAD's volume may be from the formula's.
-NOISE = 1e-4
+# How far apart places that are one may be told, which have nine decimals.
+TOLD = 1e-8
 
 
 class Tool(NamedTuple):
@@ -168,9 +168,9 @@ def rounded_shape(
         shape = applied(shape, tool)
     for hole in given.holes:
         shape = put_back(shape, hole)
-    plain, by_pi = volume_of(solid, found, unit)
-    volume = float(plain) + float(by_pi + volume_by_pi(cones, unit) + holes.volume_by_pi(solid, found, given, unit)) * math.pi
-    return checked(read_back(shape.removeSplitter()), volume if by_formula else None)
+    plain, by_pi = volume_of(solid, found, unit, given.moved)
+    volume = float(plain) + float(by_pi + volume_by_pi(cones, unit, given.moved) + holes.volume_by_pi(solid, found, given, unit)) * math.pi
+    return checked(read_back(shape.removeSplitter()), volume if by_formula else None, given.moved)
 
 
 def turned_round(shape: "Part.Shape") -> "Part.Shape":
@@ -180,10 +180,11 @@ def turned_round(shape: "Part.Shape") -> "Part.Shape":
     return turned
 
 
-def checked(shape: "Part.Shape", volume: float | None) -> "Part.Shape":
-    """The shape, where it is valid, and has the volume that the formula tells."""
+def checked(shape: "Part.Shape", volume: float | None, moved: float) -> "Part.Shape":
+    """The shape, where it is valid, and has the volume that the formula tells: but for how far coordinates are moved, by which the sides of a square
+    come nearer or go apart, over all of its surface. FreeCAD's own noise, some 1e-14 of the surface, is less than what places are told with."""
     if not shape.isValid() or not shape.Solids:
         raise Refused("FreeCAD makes no valid solid of it")
-    if volume is not None and abs(shape.Volume - volume) > NOISE * shape.Volume:
+    if volume is not None and abs(shape.Volume - volume) > shape.Area * (2 * moved + TOLD):
         raise Refused(f"FreeCAD's volume of it is {shape.Volume:.9g}, and {volume:.9g} was to come")
     return shape

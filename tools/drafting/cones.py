@@ -26,7 +26,7 @@ from .drawing import VIEWS, Place
 from .given import Cone, Given, Squared, Stretch
 from .panels import FRAMES
 from .reading import Box, Edge
-from .rounded import Drawn, half_width, is_full_in, spot
+from .rounded import Drawn, exact, is_full_in, spot
 from .rounds import BESIDE, OF_ONE, Round, covers, is_straight
 from .tangent import place_along, shared_axis
 
@@ -302,11 +302,11 @@ def covering(its: Sequence[Cone], owed: Sequence[Cone], seen: Sequence[Cone] = (
     return list(itertools.islice(found, MOST))
 
 
-def volume_by_pi(chosen: Sequence[Fitted], unit: int) -> Fraction:
+def volume_by_pi(chosen: Sequence[Fitted], unit: int, moved: float) -> Fraction:
     """The number of pi by which cones change a solid's volume, once its rounds are rounded back."""
     total = Fraction(0)
     for it in chosen:
-        small, large = (half_width(radius, unit) for radius in (it.cone.end_radius, it.cone.radius))
-        height = abs(Fraction(it.neck).limit_denominator(10**6) - Fraction(it.end).limit_denominator(10**6))
+        small, large = (exact(radius, unit, moved) for radius in (it.cone.end_radius, it.cone.radius))
+        height = abs(exact(it.neck, unit, moved) - exact(it.end, unit, moved))
         total += (1 if it.is_full else -1) * height * ((small**2 + small * large + large**2) / 3 - small**2)
     return total

@@ -2,6 +2,7 @@
 lines and arcs of each view, with which they are compared. All are from a view's least corner on, in the drawing's unit:
 
     draft reading 1 of 3
+    draft moved 0.00005                     how far coordinates of the drawing lie from the sheet's at most
     draft round TOP 40 25 6 1234            a centre, a radius, and the numbers of quarters; `inner` or `cut` behind them
     draft arc TOP solid 40 25 6 0 360       from an angle on, so many degrees counterclockwise
     draft line FRONT dashed 34 0 34 8
@@ -27,7 +28,8 @@ VIEW = "|".join((*VIEWS, *FURTHER))
 FORMS = {
     "round": rf"({VIEW}) # # # ([1-4]{{1,4}})( inner)?( cut)?", "arc": rf"({VIEW}) (solid|dashed) # # # # #",
     "line": rf"({VIEW}) (solid|dashed) # # # #", "smooth": rf"({VIEW}) (upright|level) (solid|dashed) # # #",
-    "cone": rf"({VIEW}) # # # # # #( sure)?", "reading": r"([1-9]\d{0,5}) of ([1-9]\d{0,5})", "chamfer": rf"({VIEW}) # # # #( back)?", "hole": rf"({VIEW}) # # # # #", "doubt": "(.*)", "suspect": "(.*)",
+    "cone": rf"({VIEW}) # # # # # #( sure)?", "reading": r"([1-9]\d{0,5}) of ([1-9]\d{0,5})", "moved": r"(\d{1,12}(?:\.\d{1,9})?)",
+    "chamfer": rf"({VIEW}) # # # #( back)?", "hole": rf"({VIEW}) # # # # #", "doubt": "(.*)", "suspect": "(.*)",
 }
 
 
@@ -120,8 +122,9 @@ class Hole(NamedTuple):
 
 class Given(NamedTuple):
     """What a drawing's comments say: the rounds, the lines and arcs by their views, what was left out as smooth, where squaring off may be
-    wrong, the cones, and which reading of the sheet it is, of how many: one of a greater number changes more than to leave lines out; and
-    the chamfers, the holes and bosses that were taken off, and the curves that other views don't confirm."""
+    wrong, the cones, and which reading of the sheet it is, of how many: one of a greater number changes more than to leave lines out; the
+    chamfers, the holes and bosses that were taken off, and the curves that other views don't confirm; and how far the drawing's coordinates lie
+    from the sheet's at most."""
 
     rounds: list[Squared]
     lines: dict[str, list[Edge]]
@@ -133,6 +136,7 @@ class Given(NamedTuple):
     chamfers: tuple[Chamfer, ...] = ()
     holes: tuple[Hole, ...] = ()
     suspects: tuple[str, ...] = ()
+    moved: float = 0.0
 
     @property
     def squared(self) -> list[Squared | Chamfer]:
@@ -173,6 +177,7 @@ def times(given: Given, factor: int) -> Given:
         cones=[it.times(factor) for it in given.cones],
         chamfers=tuple(it._replace(slant=Slant(place(it.slant.centre), place(it.slant.corner))) for it in given.chamfers),
         holes=tuple(Hole(it.view, place(it.centre), it.radius * factor, it.low * factor, it.high * factor) for it in given.holes),
+        moved=given.moved * factor,
     )
 
 
@@ -200,6 +205,8 @@ def styled(hidden: bool) -> str:
 
 def rows_of(given: Given) -> Iterator[str]:
     yield f"reading {given.reading[0]} of {given.reading[1]}"
+    if plain(given.moved) != "0":
+        yield f"moved {plain(given.moved)}"
     for one in given.rounds:
         marks = (" inner" if one.quarters[0].is_inner else "") + (" cut" if one.is_cut else "")
         yield f"round {one.view} {plain(*one.centre, one.radius)} {''.join(map(str, map(number_of, one.quarters)))}{marks}"
@@ -299,6 +306,8 @@ def given_in(lines: list[str]) -> Given | None:
             raise Refused(f"line {number + 1:,} isn't what `draft sheet` writes of a squared-off sheet: {text[:60]}")
         if word == "reading":
             given = given._replace(reading=(int(told[1]), int(told[2])))
+        elif word == "moved":
+            given = given._replace(moved=float(told[1]))
         elif word == "chamfer":
             given = given._replace(chamfers=(*given.chamfers, chamfer_in(*told.groups())))
         elif word == "hole":

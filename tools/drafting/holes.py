@@ -19,11 +19,11 @@ from typing import NamedTuple
 
 from .answers import Solid
 from .drawing import VIEWS
-from .given import Given, Hole as Told, Stretch, plain
+from .given import Given, Hole as Told, Stretch
 from .groups import holds
 from .panels import FRAMES
 from .reading import Edge
-from .rounded import Drawn, is_full_in, spot
+from .rounded import Drawn, exact, is_full_in, spot
 from .rounds import OF_ONE, Round, box_of, do_meet, is_level
 from .tangent import Side, Views, sides_of, span_of, within, without
 
@@ -162,7 +162,7 @@ def volume_by_pi(solid: Solid, found: Sequence[Drawn], given: Given, unit: int) 
     """The number of pi by which what was taken off changes a solid's volume, once its rounds are rounded back."""
     total = Fraction(0)
     for it in given.holes:
-        radius, low, high = (Fraction(plain(length)) for length in (it.radius, it.low, it.high))
+        radius, low, high = (exact(length, unit, given.moved) for length in (it.radius, it.low, it.high))
         share = radius**2 * (high - low)
         total += -share if is_in(solid, found, it, unit) else share
     return total

@@ -113,8 +113,8 @@ def rounded_back(number: int, solid: Solid, given: Given, unit: int, with_shapes
         every = choices(solid, way, given, unit)
         why = why or ("" if every else "its holes and bosses don't have the places of all cones")
         for chosen in every:
-            plain, by_pi = volume_of(solid, way, unit)
-            volume = (plain, by_pi + volume_by_pi(chosen, unit) + holes.volume_by_pi(solid, way, given, unit)) if by_formula else None
+            plain, by_pi = volume_of(solid, way, unit, given.moved)
+            volume = (plain, by_pi + volume_by_pi(chosen, unit, given.moved) + holes.volume_by_pi(solid, way, given, unit)) if by_formula else None
             try:
                 shape, doubt = shape_and_doubt(solid, Rounds(way, chosen, by_formula), given, unit, with_shapes) if with_shapes else (None, "")
                 some.append(Kept(number, solid, volume, shape, doubt))

@@ -15,15 +15,19 @@ from .panels import FRAMES
 from .rounds import Quarter, Slant
 
 FULL_OUTSIDE, FULL_INSIDE = (False, True), (True, False)
+# What of a unit is noise, where coordinates aren't moved at all; and the greatest denominator of a length that has an end, or is a part of a unit.
+LEAST, MOST_PARTS = 1e-3, 10**6
+# How far apart corners of two rounds may lie that are one, of a radius.
+SAME = 1e-3
 
 
 class Strip(NamedTuple):
-    """Where something goes on across a side of a quarter's square: across its upright side (0) or its level one (1), from one coordinate
-    to another; or (2) a rectangle round its corner, from x to x and from y to y."""
+    """Where something goes on across a side of a quarter's square: across its upright side (0) or its level one (1), from one place
+    to another, in units; or (2) a rectangle round its corner, from x to x and from y to y."""
 
     across: int
-    low: tuple[int, ...]
-    high: tuple[int, ...]
+    low: tuple[float, ...]
+    high: tuple[float, ...]
 
 
 class Layer(NamedTuple):
@@ -64,23 +68,25 @@ class Beside(NamedTuple):
 
     within: Place
     beyond: Place
-    where: tuple[int, int, int] | None
+    where: tuple[int, float, float] | None
 
 
-def beside(cuts: list[list[int]], view: str, quarter: Quarter | Slant, unit: int) -> Iterator[Beside]:
-    """Places within and beyond the two sides at a quarter's sharp corner, and at the corner itself."""
-    centre, corner = ([round(at * unit) for at in place] for place in (quarter.centre, quarter.corner))
+def beside(cuts: list[list[int]], view: str, quarter: Quarter | Slant, unit: int, moved: float) -> Iterator[Beside]:
+    """Places within and beyond the two sides at a quarter's sharp corner, and at the corner itself. The corner is one of the squared drawing, its
+    centre needn't be: it lies between two coordinates, where a circle is an odd number of units wide or no other line ends where a round does.
+    What lies farther from the centre than coordinates are moved is looked at."""
+    corner, noise = [round(at * unit) for at in quarter.corner], moved * unit + LEAST
     within, beyond = ([at - way * side / 2 for at, way in zip(corner, (quarter.right, quarter.up))] for side in (1, -1))
     yield Beside((within[0], within[1]), (beyond[0], beyond[1]), None)
     for across, axis in ((0, FRAMES[view].up), (1, FRAMES[view].right)):
-        low, high = sorted((centre[1 - across], corner[1 - across]))
-        for one, other in itertools.pairwise([low, *(cut for cut in cuts[axis] if low < cut < high), high]):
+        low, high = sorted((quarter.centre[1 - across] * unit, float(corner[1 - across])))
+        for one, other in itertools.pairwise([low, *(cut for cut in cuts[axis] if low + noise < cut < high - noise), high]):
             middle = (one + other) / 2
             ends = [(pair[0], middle) if across == 0 else (middle, pair[1]) for pair in (within, beyond)]
             yield Beside(ends[0], ends[1], (across, one, other))
 
 
-def strips_of(its: Sequence[tuple[int, int, int]], quarter: Quarter | Slant, unit: int) -> tuple[Strip, ...]:
+def strips_of(its: Sequence[tuple[int, float, float]], quarter: Quarter | Slant, unit: int) -> tuple[Strip, ...]:
     """What goes on across a quarter's sides: strips; and round its corner, where both sides go on, a rectangle alone."""
     corner = [round(at * unit) for at in quarter.corner]
     rows = [joined(sorted(it[1:] for it in its if it[0] == across)) for across in (0, 1)]
@@ -93,8 +99,8 @@ def strips_of(its: Sequence[tuple[int, int, int]], quarter: Quarter | Slant, uni
     return (*rest, Strip(2, level, upright))
 
 
-def joined(its: Sequence[tuple[int, ...]]) -> list[tuple[int, ...]]:
-    row: list[tuple[int, ...]] = []
+def joined(its: Sequence[tuple[float, float]]) -> list[tuple[float, float]]:
+    row: list[tuple[float, float]] = []
     for low, high in its:
         row = [*row[:-1], (row[-1][0], high)] if row and row[-1][1] == low else [*row, (low, high)]
     return row
@@ -164,7 +170,7 @@ def rounded(solid: Solid, given: Given, unit: int, how: How = How.STRICT) -> lis
     for one in (it for it in given.squared if it.view in VIEWS):
         quarters: Sequence[Quarter | Slant] = one.quarters
         ways: list[list[Layer | None]] = [[] for _ in quarters]
-        places = [list(beside(cuts, one.view, quarter, unit)) for quarter in quarters]
+        places = [list(beside(cuts, one.view, quarter, unit, given.moved)) for quarter in quarters]
         for low, high in itertools.pairwise(cuts[FRAMES[one.view].sight]):
             middle = (low + high) / 2
             at = [[((is_full(spot(one.view, it.within, middle)), is_full(spot(one.view, it.beyond, middle))), it) for it in its] for its in places]
@@ -203,12 +209,13 @@ def ways_of(solid: Solid, given: Given, unit: int) -> Iterator[tuple[list[Drawn]
                 yield way, how <= How.BETWEEN and not any(it.quarter.is_inner for it in way)
 
 
-def half_width(radius: float, unit: int) -> Fraction:
-    """A radius as half of what its square is wide in the drawing."""
-    return Fraction(round(2 * radius * unit), 2 * unit)
+def exact(length: float, unit: int, moved: float) -> Fraction:
+    """A length of a sheet as the number that it is: of half units, where it is so but for noise and for how far coordinates are moved."""
+    halves = round(2 * length * unit)
+    return Fraction(halves, 2 * unit) if abs(2 * length * unit - halves) <= 2 * moved * unit + LEAST else Fraction(length).limit_denominator(MOST_PARTS)
 
 
-def volume_of(solid: Solid, found: Sequence[Drawn], unit: int) -> tuple[Fraction, Fraction]:
+def volume_of(solid: Solid, found: Sequence[Drawn], unit: int, moved: float) -> tuple[Fraction, Fraction]:
     """The volume, a number and a number of pi: each quarter takes (1 - pi / 4) r² from a full corner, or adds it to an empty one; each
     chamfer half of its box."""
     plain, by_pi = Fraction(solid.volume, unit**3), Fraction(0)
@@ -218,6 +225,6 @@ def volume_of(solid: Solid, found: Sequence[Drawn], unit: int) -> tuple[Fraction
             width, height = (Fraction(abs(round(a * unit) - round(b * unit)), unit) for a, b in zip(it.quarter.centre, it.quarter.corner))
             plain += depth * width * height / 2
         else:
-            share = depth * half_width(it.quarter.radius, unit) ** 2
+            share = depth * exact(it.quarter.radius, unit, moved) ** 2
             plain, by_pi = plain + share, by_pi - share / 4
     return plain, by_pi

@@ -2,7 +2,6 @@
 reads, with comments that say what was squared off (`given.py`).
 """
 import argparse
-import bisect
 import itertools
 import math
 from collections import Counter, defaultdict
@@ -13,6 +12,7 @@ from typing import NamedTuple
 from . import chamfers, cones, given, holes, noted, rounds, section_views, sheet, tangent, unconfirmed
 from .cutting import Mark
 from .drawing import VIEWS, Place
+from .evened import evened, upon
 from .given import Cone, Given, Stretch
 from .groups import Group, frames, holds, meet, merged, pieces_of
 from .messages import Refused, many
@@ -32,8 +32,6 @@ ROUNDED = 4
 # What is added where an oblique edge is refused.
 NO_CONE = ", and of cones those at the ends of whole circles' holes and bosses, which both views from the side draw"
 NO_CORNER = "; it is no corner that is cut off or filled straight through either: {}"
-# How far curves end from the lines that they meet, in files with three decimals, and by what share of the sheet.
-ENDS, SHARE = 6e-4, 1e-5
 # The most circles and arcs of a sheet, and how many warnings of one kind are told.
 MOST_ARCS, MOST_TOLD = 3_000, 8
 # How far apart views may lie that a group of arcs alone is in line with.
@@ -75,48 +73,6 @@ class Found(NamedTuple):
         boxes = {view: group.box for view, group in self.placed.views.items()}
         placed = [(view, one) for one in rounds_of for view, box in boxes.items() if holds(box, one.box, OF_ONE * self.tolerance)]
         return Views(boxes, self.lines, placed, self.tolerance, self.placed.mirrored)
-
-
-# ---- noise
-
-def evened(edges: Sequence[Edge], arcs: Sequence[Arc]) -> list[Edge]:
-    """The edges with coordinates that differ by noise alone made one, which most have: curves end less exactly than lines."""
-    tables = [evening(edges, arcs, at) for at in (0, 1)]
-    return [edge._replace(start=(tables[0][edge.start[0]], tables[1][edge.start[1]]), end=(tables[0][edge.end[0]], tables[1][edge.end[1]]))
-            for edge in edges]
-
-
-def evening(edges: Sequence[Edge], arcs: Sequence[Arc], at: int) -> dict[float, float]:
-    """What each coordinate of the edges, to the right or upwards, becomes."""
-    counts: dict[float, int] = defaultdict(int)
-    for edge in edges:
-        for end in (edge.start, edge.end):
-            counts[end[at]] += 1 if edge.source.kind == "SPLINE" else 3
-    for arc in arcs:
-        for off in (-arc.radius, 0.0, arc.radius):
-            counts[arc.centre[at] + off] += 2
-    table: dict[float, float] = {}
-    group: list[float] = []
-    noise = min(ENDS, (max(counts) - min(counts)) * SHARE)
-    for value in [*sorted(counts), math.inf]:
-        if group and value - group[-1] > noise:
-            best = max(group, key=lambda it: (sum(counts[other] for other in group if abs(other - it) < 2e-5), counts[it]))
-            table.update({it: best for it in group})
-            group = []
-        group.append(value)
-    return table
-
-
-def upon(squares: Sequence[Edge], edges: Sequence[Edge]) -> list[Edge]:
-    """The sides of squares with coordinates that differ by noise alone from those of edges made the same: arcs end less exactly than lines."""
-    values = [sorted({end[at] for edge in edges for end in (edge.start, edge.end)}) for at in (0, 1)]
-
-    def near(place: Place) -> Place:
-        x, y = (min(its[max(0, bisect.bisect(its, at) - 1):][:2], key=lambda it: abs(it - at)) if its else at for at, its in zip(place, values))
-        return x if abs(x - place[0]) <= noise else place[0], y if abs(y - place[1]) <= noise else place[1]
-
-    noise = min([ENDS, *((its[-1] - its[0]) * SHARE for its in values if its)])
-    return [edge._replace(start=near(edge.start), end=near(edge.end)) for edge in squares]
 
 
 # ---- which arcs are of the views
@@ -286,7 +242,7 @@ def measured(path: str | None, placed: Placed, times: Fraction, arguments: argpa
         if "doesn't fit" not in str(refusal) or arguments.sheet_decimals is not None:
             raise
         tell(noted.changed(f"coordinates rounded to {ROUNDED} decimals, since they have no end"))
-        return Measure(times, ROUNDED, 0.5 * 10**-ROUNDED)
+        return Measure(times, ROUNDED, 0.5 * 10**-ROUNDED / float(times))
 
 
 class Frame(NamedTuple):
@@ -355,6 +311,13 @@ def given_by(
     return result
 
 
+def moved_by(told: Given, measure: Measure, tolerance: float) -> float:
+    """How far coordinates of the drawing lie from the sheet's at most, and those of corners of rounds from these, as far as that is noise."""
+    unit, times = float(10**measure.decimals), float(measure.times)
+    offs = [abs(at - round(at * unit) / unit) for one in told.squared for it in one.quarters for at in it.corner]
+    return max([measure.moved * times, *(off for off in offs if off <= OF_ONE * tolerance * times)])
+
+
 def check_within(found: Found, placed: Placed) -> None:
     """Refuses a cone that reaches farther than all else of its view: without it the views are smaller."""
     for view, group in placed.views.items():
@@ -394,6 +357,7 @@ def drawn(found: Found, reading: Reading, corners: Sequence[chamfers.Squared], n
         smooth = [(it, False) for it in tangent.candidates(views) if it.owners & set(reading.inner)]
         lines, left = tangent.without(lines, smooth, found.tolerance), [*left, *smooth]
     told = given_by(found, placed, lines, squares, corners, tuple(left), float(measure.times))._replace(reading=number, suspects=suspects_of(found))
+    told = told._replace(moved=moved_by(told, measure, found.tolerance))
     tell_squares(told, tell)
     tell_cones(found, tell)
     layers = layers_of(found, reading, corners, squares, placed, times, measure, tell)
