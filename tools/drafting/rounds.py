@@ -340,24 +340,45 @@ class Squaring:
         ends = [list(edge.start), list(edge.end)]
         along = 0 if is_level(edge) else 1
         for one in self.rounds:
-            across = edge.start[1 - along] - one.centre[1 - along]
-            if self.tolerance < abs(across) < one.radius - self.tolerance:
-                for end in ends:
-                    self.lengthen(edge, one, along, end)
+            for end in ends:
+                self.lengthen(edge, one, along, end)
         return edge._replace(start=(ends[0][0], ends[0][1]), end=(ends[1][0], ends[1][1]))
 
     def lengthen(self, edge: Edge, one: Round, along: int, end: list[float]) -> None:
-        across, off = (end[at] - one.centre[at] for at in (1 - along, along))
-        half = math.sqrt(one.radius**2 - across**2)
-        signs = [math.copysign(1, off), math.copysign(1, across)]
-        signs = signs[::-1] if along else signs
-        is_upon = abs(abs(off) - half) <= 12 * self.tolerance * one.radius / half
-        if is_upon and any([it.right, it.up] == signs for it in one.quarters) and self.has_to_move(edge, one, along, end):
+        if self.is_upon(one, along, end) and (self.is_eager or self.has_to_move(edge, one, along, end)):
+            off = end[along] - one.centre[along]
             self.moves.append(Move(one, along, end[along], one.centre[along] + math.copysign(one.radius, off)))
             end[along] = self.moves[-1].after
 
-    def has_to_move(self, edge: Edge, one: Round, along: int, end: list[float]) -> bool:
+    def is_upon(self, one: Round, along: int, end: Sequence[float]) -> bool:
+        """Whether the end of a line lies upon a quarter of a round."""
+        across, off = (end[at] - one.centre[at] for at in (1 - along, along))
+        if not self.tolerance < abs(across) < one.radius - self.tolerance:
+            return False
+        half = math.sqrt(one.radius**2 - across**2)
+        signs = [math.copysign(1, off), math.copysign(1, across)]
+        signs = signs[::-1] if along else signs
+        return abs(abs(off) - half) <= 12 * self.tolerance * one.radius / half and any([it.right, it.up] == signs for it in one.quarters)
+
+    def has_to_move(self, edge: Edge, one: Round, along: int, end: Sequence[float]) -> bool:
         changes = any(it.hidden != edge.hidden and is_level(it) != bool(along) and covers(it, (end[0], end[1]), self.tolerance)
                       for it in self.straight)
-        is_cut = any(math.dist(end, one.at(it)) <= UPON * self.tolerance for it in one.cuts)
-        return self.is_eager or changes or is_cut
+        return changes or self.is_cut(one, end)
+
+    def is_cut(self, one: Round, end: Sequence[float]) -> bool:
+        """Whether the end of a line is one of those at which walls cut a round."""
+        return any(math.dist(end, one.at(it)) <= UPON * self.tolerance for it in one.cuts)
+
+    def has_bare_ends(self) -> bool:
+        """Whether some line ends upon a round that isn't cut there, and no other line comes there: then it ends at the round itself, and so in all
+        views at the round's square. Others may end at what happens to meet the round."""
+        return any(self.is_bare(edge, one, *ends) for edge in self.straight for one in self.rounds
+                   for ends in ((edge.start, edge.end), (edge.end, edge.start)))
+
+    def is_bare(self, edge: Edge, one: Round, other: Place, end: Place) -> bool:
+        along = 0 if is_level(edge) else 1
+        if not self.is_upon(one, along, end) or self.is_cut(one, end):
+            return False
+        off = math.copysign(3 * self.tolerance, end[along] - other[along])
+        beyond = (end[0] + off, end[1]) if along == 0 else (end[0], end[1] + off)
+        return not any(covers(it, beyond if is_level(it) == is_level(edge) else end, self.tolerance) for it in self.straight)

@@ -425,7 +425,7 @@ def drawings(found: Found) -> Iterator[sheet.Alike]:
     views = found.views(rounds.rounds_of(found.arcs, found.tolerance))
     # Of a page no smooth edge is drawn.
     smooth = [] if found.sheet.page else [*tangent.candidates(views), *found.cones.seams]
-    its, count = tangent.readings(smooth, tangent.kinds_of(views.rounds), [it for *_, it in tangent.contacts(views)])
+    its, count = tangent.readings(smooth, tangent.kinds_of(views.rounds), [it for *_, it in tangent.contacts(views)], has_bare_ends(views))
     only = found.arguments.reading
     ways = len(found.corners)
     if only is not None and not 1 <= only <= len(its) * ways:
@@ -434,6 +434,12 @@ def drawings(found: Found) -> Iterator[sheet.Alike]:
         numbers = [number for number in range(at * ways + 1, (at + 1) * ways + 1) if only in (None, number)]
         if numbers:
             yield sheet.Alike([tried(found, reading, number, count) for number in numbers], numbers[-1])
+
+
+def has_bare_ends(views: Views) -> bool:
+    """Whether in some view a line ends upon a round, and at no other line."""
+    return any(rounds.Squaring(tangent.within(views, view), [one for at, one in views.rounds if at == view], views.tolerance, False).has_bare_ends()
+               for view in views.boxes)
 
 
 def tried(found: Found, reading: Reading, number: int, count: int) -> sheet.Drawn | Refused:

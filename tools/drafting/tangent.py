@@ -265,14 +265,26 @@ def with_contacts(plain: Sequence[Left], touching: Sequence[Stretch]) -> Iterato
     yield from (Reading(left, contacts=some) for left in plain for some in subsets(touching, 4) if some not in ways)
 
 
-def readings(found: Sequence[Stretch], kinds: Sequence[Owner], touching: Sequence[Stretch]) -> tuple[list[Reading], int]:
+def readings(found: Sequence[Stretch], kinds: Sequence[Owner], touching: Sequence[Stretch], has_bare_ends: bool) -> tuple[list[Reading], int]:
     """All readings that are tried, the likeliest first; and how many of them but leave lines out. The others change more, and are tried where
-    nothing comes of those."""
+    nothing comes of those: but where lines end upon rounds, and nowhere else, moving them is as likely as to leave these lines out."""
     lines = list(each_once(lefts(found), MOST_PLAIN))
     plain = list(itertools.islice(with_contacts(lines, touching), MOST_PLAIN))
-    many: list[Reading] = [*plain, *(Reading(left, True) for left in lines[:MOST_EAGER])]
+    eager = [Reading(left, True) for left in lines[:MOST_EAGER]]
+    many = list(eager_first(plain, eager)) if has_bare_ends else [*plain, *eager]
+    count = len(many) if has_bare_ends else len(plain)
     many += [*itertools.islice(with_inner(found), MOST_INNER), *with_spans(found, kinds)]
-    return many[:MOST], len(plain)
+    return many[:MOST], count
+
+
+def eager_first(plain: Sequence[Reading], eager: Sequence[Reading]) -> Iterator[Reading]:
+    """The plain readings, and before the first one that leaves the same lines out each eager one."""
+    rest = list(eager)
+    for one in plain:
+        if rest and rest[0].left == one.left:
+            yield rest.pop(0)
+        yield one
+    yield from rest
 
 
 def kinds_of(rounds: Iterable[tuple[str, Round]]) -> list[Owner]:

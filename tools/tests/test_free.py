@@ -1,4 +1,4 @@
-"""Rounds that don't stand quite free: bosses that touch walls, shafts with keyways, eyes and slots come to the parts; where no solid is kept,
+"""Rounds that don't stand quite free: bosses that touch walls, shafts with keyways, eyes, levers and slots come to the parts; where no solid is kept,
 all commands name the curves that the other views don't confirm."""
 from typing import Any
 
@@ -8,8 +8,12 @@ from . import test_rounds
 from .support import draft
 
 if not test_rounds.missing:
+    from drafting.compared import SHARP
     from . import rounded_parts as parts
     from .rounded_parts import box, cylinder
+
+# All edges that TechDraw draws by its settings at first, smooth ones too.
+SMOOTH = (0, 1, 3, 5, 8)
 
 
 def tray(*centres: tuple[float, float]) -> Any:
@@ -28,6 +32,14 @@ def undercut() -> Any:
 def walled(height: float) -> Any:
     """A base with a wall, and a boss 15 high that touches it."""
     return box(0, 0, 0, 60, 40, 10).fuse(box(0, 30, 10, 60, 40, height)).fuse(cylinder(2, (20, 22), 10, 25, 8))
+
+
+def lever(low: float = 0, high: float = 10, eyes: tuple[float, float] = (20, 20)) -> Any:
+    """Two eyes of radii 15 and 10, so high, each with a hole, and a bar 12 wide between them."""
+    shape = box(15, 9, low, 75, 21, high)
+    for plan, radius, height in (((15, 15), 15, eyes[0]), ((75, 15), 10, eyes[1])):
+        shape = shape.fuse(cylinder(2, plan, 0, height, radius))
+    return shape.removeSplitter().cut(cylinder(2, (15, 15), 0, eyes[0], 6)).cut(cylinder(2, (75, 15), 0, eyes[1], 4))
 
 
 class Kept(test_rounds.InAFolder):
@@ -74,6 +86,20 @@ class Kept(test_rounds.InAFolder):
         eye = cylinder(1, (20, 20), 0, 16, 20).fuse(box(20, 0, 10, 90, 16, 30)).removeSplitter()
         parts.sheet_of(eye, self.file, rough)
         self.exact(eye)
+
+
+class Levers(test_rounds.InAFolder):
+    """Lines end at their eyes, which no wall cuts: these are moved to the eyes' squares in the first readings."""
+
+    def test_the_right_reading_comes_early(self) -> None:
+        for shape in (lever(), lever(5, 15), lever(0, 8, (20, 14))):
+            for groups, most in ((SHARP, 1), (SMOOTH, 1), (range(10), 5)):
+                parts.sheet_of(shape, self.file, groups=groups)
+                asked = self.asked()
+                with self.subTest(volume=shape.Volume, groups=groups):
+                    self.exact(shape, asked)
+                    assert asked.rounds
+                    self.assertLessEqual(asked.rounds.kept[0].given.reading[0], most)
 
 
 def without_a_step(space: Any, places: dict[str, tuple[float, float]]) -> None:
