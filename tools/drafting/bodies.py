@@ -13,7 +13,7 @@ from .cones import Fitted, volume_by_pi
 from .drawing import Place
 from .given import Given, Hole, Squared
 from .messages import Refused
-from .rounded import Drawn, Layer, Strip, by_rounds, spot, volume_of
+from .rounded import Drawn, Layer, Strip, by_rounds, is_behind, spot, volume_of
 from .rounds import Quarter, Slant
 from .solids import shape_of
 
@@ -114,16 +114,19 @@ def read_back(shape: "Part.Shape") -> "Part.Shape":
 
 
 def tools_of(found: Sequence[Drawn], unit: int, by_formula: bool) -> tuple[list[Whole], list[Tool]]:
-    """The whole circles, and what is cut or added at other corners."""
+    """The whole circles, and what is cut or added at other corners; behind a greater round of the same corner once that is cut."""
     wholes: list[Whole] = []
     corners: list[Tool] = []
+    behind: list[Tool] = []
     for group in by_rounds(found):
         one = group[0].one
         if isinstance(one, Squared) and one.is_circle and all(it.layers == group[0].layers for it in group) and by_formula:
             wholes += [whole_of(one, layer, unit) for layer in group[0].layers]
-        else:
-            corners += [Tool(corner_of(it.one.view, it.quarter, run, unit), not run.is_full) for it in group for run in runs_of(it.layers)]
-    return wholes, [it for it in corners if it.shape.Solids]
+            continue
+        for it in group:
+            its = [Tool(corner_of(it.one.view, it.quarter, run, unit), not run.is_full) for run in runs_of(it.layers)]
+            (behind if any(is_behind(it, other) for other in found) else corners).extend(its)
+    return wholes, [it for it in (*corners, *behind) if it.shape.Solids]
 
 
 def cone_tools(it: Fitted) -> Iterator[Tool]:

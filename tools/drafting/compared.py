@@ -1,4 +1,5 @@
 """A rounded solid drawn again by FreeCAD's hidden line removal, and compared with its sheet, line by line and arc by arc."""
+import functools
 import itertools
 import math
 from collections import defaultdict
@@ -174,13 +175,25 @@ def differences(shape: "Part.Shape", given: Given) -> Iterator[str]:
         left = joined_near(rows_of([it.edge() for it in given.smooth if it.view == view], []), rows)
         if made.others:
             yield f"{view} has {made.others} curves that are neither lines nor arcs"
+        smooth = functools.cache(functools.partial(smooth_rows, shape, view, least))
         for key in sorted(told.keys() | rows.keys()):
             both = told.get(key, []), rows.get(key, [])
             for low, high in stretches(both):
-                one, other = (style_at(row, (low + high) / 2) for row in both)
-                # Where a round touches a wall the line that was left out as smooth is an edge.
-                if one != other and style_at([*both[0], *left.get(key, [])], (low + high) / 2) != other:
+                middle = (low + high) / 2
+                one, other = (style_at(row, middle) for row in both)
+                # Where a round touches a wall the line that was left out as smooth is an edge, or lies over one.
+                style = style_at([*both[0], *left.get(key, [])], middle)
+                if one != other and style != other and not (style == "solid" and other == "dashed" and is_solid_near(smooth(), key, middle)):
                     yield f"{view}, {place_told(key, low, high)}: the sheet has {one}, the solid {other}"
+
+
+def smooth_rows(shape: "Part.Shape", view: str, least: Place) -> Rows:
+    """The smooth edges of a view of a shape."""
+    return rows_of(moved(drawn(shape, view, SMOOTH).lines, [], least)[0], [])
+
+
+def is_solid_near(rows: Rows, key: tuple[float, ...], at: float) -> bool:
+    return any(style_at(row, at) == "solid" for it, row in rows.items() if are_near(it, key))
 
 
 def least_of(given: Given, view: str) -> Place:

@@ -2,7 +2,9 @@
 says when that is right."""
 import bisect
 import enum
+import functools
 import itertools
+import math
 from collections.abc import Callable, Iterator, Sequence
 from fractions import Fraction
 from typing import NamedTuple
@@ -50,10 +52,16 @@ class Drawn(NamedTuple):
 
 class How(enum.IntEnum):
     """How layers are taken: where full changes to empty all along a corner; also where a wall lies along one side of a boss's square, or
-    along two, which it touches; or where it does so but for slots across the corner's sides; also, of what is no whole circle or is cut, but for
-    where a wall goes on across; or of all."""
+    along two, which it touches; or where behind such a boss a fillet of less radius goes on; or of each quarter of a circle by itself, where a boss
+    fills a fillet; or where full changes to empty but for slots across the corner's sides; also, of what is no whole circle or is cut, but for where a
+    wall goes on across; or of all."""
 
-    STRICT, TOUCHING, BETWEEN, SLOTTED, CUT, ALL = range(6)
+    STRICT, TOUCHING, BETWEEN, BEHIND, CORNERED, SLOTTED, CUT, ALL = range(8)
+
+    @property
+    def has_formula(self) -> bool:
+        """Whether the volume's formula holds: no quarter is in part of a layer."""
+        return self <= How.CORNERED
 
 
 def spot(view: str, place: Place, depth: float) -> tuple[float, float, float]:
@@ -116,7 +124,7 @@ def layer_of(
     styles = {pair for pair, _ in at}
     if styles in ({FULL_INSIDE}, {FULL_OUTSIDE}):
         return Layer(*ends, FULL_INSIDE in styles)
-    if how in (How.TOUCHING, How.BETWEEN) and not one.is_circle and isinstance(one, Squared) and walls_along(at) == 1:
+    if how in touching_ways(one) and walls_along(at) == 1:
         return Layer(*ends, True)
     if how is How.SLOTTED and isinstance(one, Squared):
         is_full, beyond = next(pair for pair, it in at if not it.where)
@@ -129,6 +137,13 @@ def layer_of(
     is_full = FULL_INSIDE in sides
     on = [it.where for pair, it in at if it.where and pair == (is_full, is_full)]
     return Layer(*ends, is_full, strips_of(on, quarter, unit))
+
+
+def touching_ways(one: Squared | Chamfer) -> tuple[How, ...]:
+    """In which ways a quarter by itself may touch a wall."""
+    if isinstance(one, Chamfer):
+        return ()
+    return (How.CORNERED,) if one.is_circle else (How.TOUCHING, How.BETWEEN, How.BEHIND, How.CORNERED)
 
 
 def back_layer(at: list[tuple[tuple[bool, bool], Beside]], ends: tuple[int, int]) -> Layer | None:
@@ -146,7 +161,7 @@ def walls_along(at: list[tuple[tuple[bool, bool], Beside]]) -> int | None:
 def beside_walls(row: list[Layer | None], at: list[list[tuple[tuple[bool, bool], Beside]]], ends: tuple[int, int], how: How) -> list[Layer | None]:
     """The layers of a circle's quarters, also where it is a boss that touches walls along one side of its square, or two: by halves of sides."""
     walls = list(map(walls_along, at))
-    if None in walls or sum(it or 0 for it in walls) > 2 * how:
+    if None in walls or sum(it or 0 for it in walls) > 2 * min(how, How.BETWEEN):
         return row
     return [Layer(*ends, True)] * len(row)
 
@@ -175,14 +190,30 @@ def rounded(solid: Solid, given: Given, unit: int, how: How = How.STRICT) -> lis
             middle = (low + high) / 2
             at = [[((is_full(spot(one.view, it.within, middle)), is_full(spot(one.view, it.beyond, middle))), it) for it in its] for its in places]
             row = [layer_of(its, (low, high), (one, quarter), how, unit) for quarter, its in zip(quarters, at)]
-            if one.is_circle and how in (How.TOUCHING, How.BETWEEN):
+            if one.is_circle and How.TOUCHING <= how <= How.BEHIND:
                 row = beside_walls(row, at, (low, high), how)
             for layers, layer in zip(ways, row):
                 layers.append(layer)
-        if not all(map(any, ways)):
+        if how is not How.BEHIND and not all(map(any, ways)):
             return None
         found += [Drawn(one, quarter, tuple(it for it in layers if it)) for quarter, layers in zip(quarters, ways)]
-    return found
+    found = list(map(functools.partial(with_behind, found), found)) if how is How.BEHIND else found
+    return found if all(it.layers for it in found) else None
+
+
+def with_behind(found: Sequence[Drawn], it: Drawn) -> Drawn:
+    """A quarter, also with those layers in which a greater one that rounds the same corner is emptied up to it: a fillet behind a boss."""
+    over = [layer for other in found if is_behind(it, other) for layer in other.layers if layer.is_full and not layer.strips]
+    more = [layer._replace(is_full=False) for layer in over if not any(own.low < layer.high and layer.low < own.high for own in it.layers)]
+    return it._replace(layers=tuple(sorted((*it.layers, *more))))
+
+
+def is_behind(it: Drawn, other: Drawn) -> bool:
+    """Whether a quarter rounds the same corner as a greater one."""
+    a, b = it.quarter, other.quarter
+    if not isinstance(a, Quarter) or not isinstance(b, Quarter) or it.one.view != other.one.view:
+        return False
+    return (a.right, a.up) == (b.right, b.up) and a.radius < b.radius and math.dist(a.corner, b.corner) < a.radius * SAME
 
 
 def by_rounds(found: Sequence[Drawn]) -> list[list[Drawn]]:
@@ -203,10 +234,10 @@ def ways_of(solid: Solid, given: Given, unit: int) -> Iterator[tuple[list[Drawn]
     seen: list[list[Drawn]] = []
     for how in How:
         found = rounded(solid, given, unit, how)
-        for way in [] if found is None else [of_wholes(found), found] if how <= How.BETWEEN else [found]:
+        for way in [] if found is None else [of_wholes(found), found] if how.has_formula else [found]:
             if way not in seen:
                 seen.append(way)
-                yield way, how <= How.BETWEEN and not any(it.quarter.is_inner for it in way)
+                yield way, how.has_formula and not any(it.quarter.is_inner for it in way)
 
 
 def exact(length: float, unit: int, moved: float) -> Fraction:

@@ -6,7 +6,8 @@ corner, in the layers where the corner's inside is full, and by filling it where
 
 1. in such a layer full changes to empty, or the reverse, all along both sides of the corner, and nothing else of the boundary comes
    between the round and the corner but a round whose disc lies within the other's; or the inside is full, and along some sides a wall goes
-   on that the round touches: there the line of contact is an edge, which the sheet is read without as a tangent one;
+   on that the round touches: there the line of contact is an edge, which the sheet is read without as a tangent one; a fillet of the same corner,
+   whose radius is no greater, may go on behind such a boss, or be filled by it;
 2. in the layers next to it no boundary runs along these sides, but that of such a wall;
 3. where quarters end a wall of some length goes on, along the round or across it;
 4. rounds of different views don't meet in space.
@@ -220,22 +221,42 @@ def covers(edge: Edge, place: Place, tolerance: float) -> bool:
     return all(min(a, b) - tolerance <= at <= max(a, b) + tolerance for a, b, at in zip(edge.start, edge.end, place))
 
 
-def check_ends(one: Round, edges: Sequence[Edge], tolerance: float) -> None:
+def check_ends(one: Round, edges: Sequence[Edge], rounds: Sequence[Round], tolerance: float) -> None:
     """Refuses a round at whose end no line goes on, along the round's way or across it as a wall."""
     for quarter, number in zip(one.quarters, one.numbers):
         for at, end in enumerate(quarter.ends):
             stop = math.degrees(math.atan2(end[1] - one.centre[1], end[0] - one.centre[0]))
             into = INTO if (at == 0) == (number % 2 == 0) else -INTO
             if one.is_drawn(stop + into) and not one.is_drawn(stop - into) and not goes_on(quarter, at, end, edges, tolerance):
-                raise InTheWay(f"a {one} ends at {end[0]:.6g}, {end[1]:.6g}, where no line goes on: it is a thread, a circle that is cut, or one "
-                               "of two rounds that bend to different sides without a wall between them", [one.drawn.source], THREAD)
+                why = met_told(one, end, rounds, tolerance) or ("no line goes on: it is a thread, a circle that is cut, or one of two rounds that bend "
+                      "to different sides without a wall between them")
+                raise InTheWay(f"a {one} ends at {end[0]:.6g}, {end[1]:.6g}, where {why}", [one.drawn.source], THREAD)
+
+
+def met_told(one: Round, place: Place, rounds: Sequence[Round], tolerance: float) -> str:
+    """How a round ends at another one, in words; nothing where none is drawn at its end."""
+    noise = BESIDE * tolerance
+    for other in (it for it in rounds if it is not one and abs(math.dist(place, it.centre) - it.radius) <= noise):
+        angle = math.degrees(math.atan2(place[1] - other.centre[1], place[0] - other.centre[0]))
+        apart = math.dist(one.centre, other.centre)
+        if any(map(other.is_drawn, (angle - INTO, angle, angle + INTO))):
+            if abs(apart - one.radius - other.radius) <= noise:
+                return f"it goes over into a {other}, which bends to the other side, without a wall between them"
+            if abs(apart - abs(one.radius - other.radius)) <= noise:
+                return f"it goes over into a {other}, or touches it"
+            return f"a {other} cuts it: rounds are read that level and upright walls cut, and no others"
+    return ""
 
 
 def goes_on(quarter: Quarter, at: int, end: Place, edges: Sequence[Edge], tolerance: float) -> bool:
-    """Whether a line goes on at an end of a quarter, on its upright side or its level one."""
+    """Whether a line goes on at an end of a quarter, on its upright side or its level one; or goes back from it to the corner, as a wall does that
+    a boss touches and that ends there."""
     ways = ((0, -quarter.up), (1, 0), (-1, 0)) if at == 0 else ((-quarter.right, 0), (0, 1), (0, -1))
     beside = [(end[0] + 3 * tolerance * x, end[1] + 3 * tolerance * y) for x, y in ways]
-    return any(covers(edge, place, tolerance) for place in beside for edge in edges)
+    back = [((end[0] + quarter.corner[0]) / 2, (end[1] + quarter.corner[1]) / 2), quarter.corner, end]
+    along = [edge for edge in edges if is_level(edge) == (at == 1)]
+    return any(covers(edge, place, tolerance) for place in beside for edge in edges) or all(
+        any(covers(edge, place, tolerance) for edge in along) for place in back)
 
 
 def doubts_of(one: Round, edges: Sequence[Edge], rounds: Sequence[Round], tolerance: float) -> Iterator[str]:
@@ -266,7 +287,7 @@ def do_meet(a: Quarter, b: Quarter, tolerance: float) -> bool:
 
 # ---- squares
 
-def image(one: Round, angle: float, edges: Sequence[Edge], tolerance: float) -> Place:
+def image(one: Round, angle: float, edges: Sequence[Edge], rounds: Sequence[Round], tolerance: float) -> Place:
     """Where a change of style on a round comes to lie on its square: along the one line that meets it there."""
     x, y = one.at(angle)
     if abs(angle % 90) < 1e-9:
@@ -275,16 +296,17 @@ def image(one: Round, angle: float, edges: Sequence[Edge], tolerance: float) -> 
     meeting = {is_level(edge) for edge in met}
     if len(meeting) != 1:
         what = "ends" if any(abs(angle - it) < 1e-9 for it in one.cuts) else "changes its style"
-        raise InTheWay(f"a {one} {what} at {x:.6g}, {y:.6g}, where {'two lines meet' if meeting else 'no line meets'} it: it is a thread, "
-                       "is cut by what is no level or upright wall, or meets another round in space", [one.drawn.source], THREAD)
+        why = met_told(one, (x, y), rounds, tolerance) or (f"{'two lines meet' if meeting else 'no line meets'} it: it is a thread, is cut by what is no "
+              "level or upright wall, or meets another round in space")
+        raise InTheWay(f"a {one} {what} at {x:.6g}, {y:.6g}, where {why}", [one.drawn.source], THREAD)
     right, up = (one.centre[at] + math.copysign(one.radius, it - one.centre[at]) for at, it in ((0, x), (1, y)))
     return (right, met[0].start[1]) if meeting.pop() else (met[0].start[0], up)
 
 
-def square_of(one: Round, edges: Sequence[Edge], tolerance: float) -> Iterator[Edge]:
+def square_of(one: Round, edges: Sequence[Edge], rounds: Sequence[Round], tolerance: float) -> Iterator[Edge]:
     """The edges that stand for a round."""
     for low, high, hidden in one.pieces:
-        start, end = (image(one, angle, edges, tolerance) for angle in (low, high))
+        start, end = (image(one, angle, edges, rounds, tolerance) for angle in (low, high))
         corner = [one.quarter(int(low // 90)).corner] if all(abs(a - b) > tolerance for a, b in zip(start, end)) else []
         for a, b in itertools.pairwise([start, *corner, end]):
             yield Edge(hidden, a, b, 7, one.drawn.source)
@@ -330,8 +352,8 @@ class Squaring:
 
     def done(self) -> Squares:
         for one in self.rounds:
-            check_ends(one, self.straight, self.tolerance)
-        squares = [it for one in self.rounds for it in square_of(one, self.straight, self.tolerance)]
+            check_ends(one, self.straight, self.rounds, self.tolerance)
+        squares = [it for one in self.rounds for it in square_of(one, self.straight, self.rounds, self.tolerance)]
         doubts = [it for one in self.rounds for it in doubts_of(one, self.straight, self.rounds, self.tolerance)]
         return Squares([*map(self.lengthened, self.edges), *squares], list(self.rounds), doubts, self.moves)
 

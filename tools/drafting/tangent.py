@@ -152,18 +152,25 @@ def crossing(side: Side, at: float, tolerance: float) -> list[float]:
 # ---- where rounds touch walls
 
 def contacts(views: Views) -> Iterator[tuple[str, Round, Stretch]]:
-    """The sides of rounds' squares, by the views and the rounds, along which a line lies from end to end, and no border of the view: there a
-    boss may touch a wall of its own height, whose edge the squared-off boss hasn't."""
-    lines, noise = {view: within(views, view) for view in views.boxes}, OF_ONE * views.tolerance
+    """The sides of rounds' squares, by the views and the rounds, along which a line lies from end to end, also of a square of another round, and no
+    border of the view: there a boss may touch a wall of its own height, whose edge the squared-off boss hasn't. Of a round that ends at such
+    a wall it is half a side."""
+    noise = OF_ONE * views.tolerance
     for view, one in views.rounds:
+        sides = (Edge(False, end, it.corner, 7, other.drawn.source) for at, other in views.rounds if at == view and other is not one
+                 for it in other.quarters for end in it.ends)
+        lines = [*within(views, view), *sides]
         box, (x, y) = views.boxes[view], one.centre
-        for needed, is_upright, sign in (((0, 3), True, 1), ((1, 2), True, -1), ((0, 1), False, 1), ((2, 3), False, -1)):
+        for needed, is_upright, sign in (((0, 3), True, 1), ((1, 2), True, -1), ((0, 1), False, 1), ((3, 2), False, -1)):
             across, along = (x, y) if is_upright else (y, x)
-            at, low, high = across + sign * one.radius, along - one.radius, along + one.radius
+            at = across + sign * one.radius
+            ends = [along + one.radius * (1 if number in needed[:1] else -1) for number in needed if number in one.numbers]
+            low, high = min([along, *ends]), max([along, *ends])
             is_border = min(abs(at - box[side]) for side in ((0, 2) if is_upright else (1, 3))) <= BESIDE * views.tolerance
-            on = [edge for edge in lines[view] if is_level(edge) != is_upright and abs(edge.start[0 if is_upright else 1] - at) <= noise]
-            if set(needed) <= set(one.numbers) and not is_border and covered(on, is_upright, low, high, noise):
-                over = [edge.hidden for edge in on if span_of(edge, is_upright)[0] <= along <= span_of(edge, is_upright)[1]]
+            on = [edge for edge in lines if is_level(edge) != is_upright and abs(edge.start[0 if is_upright else 1] - at) <= noise]
+            does_end = len(ends) == 1 and not covered(on, is_upright, along - 3 * noise, along + 3 * noise, noise)
+            if (len(ends) == 2 or does_end) and not is_border and covered(on, is_upright, low, high, noise):
+                over = [edge.hidden for edge in on if span_of(edge, is_upright)[0] <= (low + high) / 2 <= span_of(edge, is_upright)[1]]
                 yield view, one, Stretch(view, is_upright, at, low, high, all(over))
 
 
