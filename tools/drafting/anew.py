@@ -54,7 +54,7 @@ class Lines:
         elif (bow := curves.through(it.places)):
             self.arcs.append(Arc(it.hidden, *bow, source._replace(kind="curve")))
         else:
-            self.unread.append(Unread(curves.neither(it.places), box_of(it.places), source._replace(kind="curve")))
+            self.unread.append(Unread(curves.neither(it.places), box_of(it.fine), source._replace(kind="curve"), places=tuple(it.fine), hidden=it.hidden))
 
     @property
     def box(self) -> Box:
@@ -70,7 +70,7 @@ class Lines:
 
         self.edges = [it._replace(start=there(it.start), end=there(it.end)) for it in self.edges]
         self.arcs = [it._replace(centre=there(it.centre)) for it in self.arcs]
-        self.unread = [it._replace(box=it.box and (*there(it.box[:2]), *there(it.box[2:]))) for it in self.unread]
+        self.unread = [it._replace(box=it.box and (*there(it.box[:2]), *there(it.box[2:])), places=tuple(map(there, it.places))) for it in self.unread]
 
 
 def turns_of(arc: Arc) -> list[float]:

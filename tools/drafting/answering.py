@@ -66,8 +66,9 @@ class Readings(NamedTuple):
     @property
     def made(self) -> str:
         """What is promised of the solids: of what they are made."""
-        kinds = self.likeliest.given.kinds if self.likeliest else "rounds"
-        return f"made of boxes and these {kinds}, each standing free"
+        given = self.likeliest.given if self.likeliest else None
+        crossed = " or crossing others as a hole does" if given and given.is_crossed else ""
+        return f"made of boxes and these {given.kinds if given else 'rounds'}, each standing free{crossed}"
 
     @property
     def where(self) -> str:

@@ -19,6 +19,8 @@ from .solids import shape_of
 
 # How far apart places that are one may be told, which have nine decimals.
 TOLD = 1e-8
+# How wide, of a hole that crosses other rounds, the middle is that tells whether it is one.
+MIDDLE = 0.01
 
 
 class Tool(NamedTuple):
@@ -144,10 +146,13 @@ def cone_tools(it: Fitted) -> Iterator[Tool]:
 
 
 def put_back(shape: "Part.Shape", hole: Hole) -> "Part.Shape":
-    """The shape with what was taken off: a hole where it is full there, a boss where it is empty."""
-    foot, way = vector(hole.view, hole.centre, hole.low), vector(hole.view, (0, 0), 1)
-    cylinder = Part.makeCylinder(hole.radius, hole.high - hole.low, foot, way)
-    share = cylinder.common(shape).Volume / cylinder.Volume
+    """The shape with what was taken off: a hole where it is full there, a boss where it is empty; of what crosses other rounds in its middle."""
+    def cylinder_of(radius: float, low: float, high: float) -> "Part.Shape":
+        return Part.makeCylinder(radius, high - low, vector(hole.view, hole.centre, low), vector(hole.view, (0, 0), 1))
+
+    cylinder = cylinder_of(hole.radius, hole.low, hole.high)
+    within = cylinder_of(hole.radius * MIDDLE, *hole.probe) if hole.probe else cylinder
+    share = within.common(shape).Volume / within.Volume
     if 1e-6 < share < 1 - 1e-6:
         raise Refused("something else comes into a hole or boss that was taken off")
     return applied(shape, Tool(cylinder, share < 0.5))
@@ -169,11 +174,14 @@ def rounded_shape(
         cylinders.append(Tool(cylinder, it.is_full))
     for tool in [*corners, *reversed(cylinders), *(tool for cone in cones for tool in cone_tools(cone))]:
         shape = applied(shape, tool)
-    for hole in given.holes:
+    # A boss comes before the hole in it, as what is wider.
+    for hole in sorted(given.holes, key=lambda it: (it.probe is not None, -it.radius if it.probe else 0)):
         shape = put_back(shape, hole)
+    if not by_formula or given.is_crossed:
+        return checked(read_back(shape.removeSplitter()), None, given.moved)
     plain, by_pi = volume_of(solid, found, unit, given.moved)
     volume = float(plain) + float(by_pi + volume_by_pi(cones, unit, given.moved) + holes.volume_by_pi(solid, found, given, unit)) * math.pi
-    return checked(read_back(shape.removeSplitter()), volume if by_formula else None, given.moved)
+    return checked(read_back(shape.removeSplitter()), volume, given.moved)
 
 
 def turned_round(shape: "Part.Shape") -> "Part.Shape":

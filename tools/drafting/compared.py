@@ -6,10 +6,13 @@ from collections import defaultdict
 from collections.abc import Iterator, Mapping, Sequence
 from typing import NamedTuple
 
+from . import bends
+from .bends import Bend
 from .cad import FreeCAD, Part, TechDraw
 from .cones import is_seam
 from .curves import angle_of
 from .drawing import Place
+from .evened import TINY
 from .given import NOWHERE, Given, Squared, Stretch, times
 from .panels import FRAMES
 from .reading import Arc, Edge
@@ -22,6 +25,8 @@ from .straight import along, off
 SHARP, SMOOTH = (0, 3, 5, 8), (1, 2, 6, 7)
 # How far apart coordinates are that are one, and how long a stretch has to be that counts; of parts that are no less than this.
 NEAR, LEAST, SIZE = 2.5e-3, 3e-3, 10.0
+# In how many steps other curves are taken.
+STEPS = 64
 
 # By line or circle: from where to where it is drawn, and whether hidden. A line is told by its way and its coordinate across, an oblique
 # one by two places on it; a circle by its centre and radius, and places on it by lengths.
@@ -30,20 +35,22 @@ Rows = dict[tuple[float, ...], list[Span]]
 
 
 class View(NamedTuple):
-    """What is drawn of a view: lines, arcs, and how many curves are neither."""
+    """What is drawn of a view: lines, arcs, and curves that are neither."""
 
     lines: list[Edge]
     arcs: list[Arc]
-    others: int
+    bends: list[Bend]
 
 
 class Projected(NamedTuple):
-    """An edge of a view as FreeCAD draws it: the number of its group, the edge, nine places along it, and of a circle its centre."""
+    """An edge of a view as FreeCAD draws it: the number of its group, the edge, nine places along it, and of a circle its centre; and of what is
+    neither a line nor a circle more places."""
 
     number: int
     edge: "Part.Edge"
     places: list[Place]
     centre: Place | None
+    fine: list[Place]
 
     @property
     def hidden(self) -> bool:
@@ -61,22 +68,36 @@ def projected(shape: "Part.Shape", view: str, groups: Sequence[int] = SHARP) -> 
     for number in (number for number in groups if not made[number].isNull()):
         for edge in made[number].Edges:
             low, high = edge.ParameterRange
-            places = [turned(it.x, it.y) for it in (edge.valueAt(low + (high - low) * at / 8) for at in range(9))]
             is_circle = edge.Curve.TypeId == "Part::GeomCircle"
-            yield Projected(number, edge, places, turned(edge.Curve.Center.x, edge.Curve.Center.y) if is_circle else None)
+            places = [turned(it.x, it.y) for it in (edge.valueAt(low + (high - low) * at / 8) for at in range(9))]
+            fine = [] if edge.Curve.TypeId in ("Part::GeomLine", "Part::GeomCircle") else [turned(it.x, it.y) for it in map(edge.valueAt, stops_of(edge))]
+            yield Projected(number, edge, places, turned(edge.Curve.Center.x, edge.Curve.Center.y) if is_circle else None, fine)
+
+
+def stops_of(edge: "Part.Edge") -> list[float]:
+    """Where on a curve places are taken: of chords, which are drawn of what is cut from ellipses, where they meet."""
+    low, high = edge.ParameterRange
+    if edge.Curve.TypeId == "Part::GeomBSplineCurve" and edge.Curve.Degree == 1:
+        return [low, *(it for it in edge.Curve.getKnots() if low < it < high), high]
+    return [low + (high - low) * at / STEPS for at in range(STEPS + 1)]
 
 
 def drawn(shape: "Part.Shape", view: str, groups: Sequence[int] = SHARP) -> View:
     """A view of a shape, from the shape's own coordinates on."""
-    result = View([], [], 0)
+    result = View([], [], [])
     for it in projected(shape, view, groups):
         if arc := it.arc():
             result.arcs.append(arc)
-        elif (ends := ends_of(it.places)):
+        elif (ends := ends_of(it.places)) and not is_piece(it):
             result.lines.append(Edge(it.hidden, *ends, 7, NOWHERE))
         else:
-            result = result._replace(others=result.others + 1)
+            result.bends.append(Bend(view, it.hidden, tuple(it.fine)))
     return result
+
+
+def is_piece(it: Projected) -> bool:
+    """Whether an edge is so short a piece of a curve that it looks straight by itself."""
+    return bool(it.fine) and max(math.dist(it.places[0], place) for place in it.places) < TINY
 
 
 def arc_of(hidden: bool, centre: Place, radius: float, places: Sequence[Place]) -> Arc:
@@ -166,16 +187,16 @@ def enlarged(shape: "Part.Shape", given: Given) -> tuple["Part.Shape", Given]:
 def differences(shape: "Part.Shape", given: Given) -> Iterator[str]:
     """Where the views of a shape differ from what was given, in words."""
     for view in given.lines:
-        made = drawn(shape, view)
-        least = least_of(given, view)
-        lines, arcs = moved(made.lines, made.arcs, least)
-        slants = slants_of([*given.lines[view], *lines])
+        made = moved(drawn(shape, view), least_of(given, view))
+        its = bends.Panel(given.lines[view], given.arcs.get(view, []), [it for it in given.bends if it.view == view])
+        lines, arcs, bent = parted(view, made, its)
+        slants = slants_of([*its.lines, *lines])
         rows = rows_of(lines, arcs, slants)
-        told = joined_near(rows_of(given.lines[view], given.arcs.get(view, []), slants), rows)
+        told = joined_near(rows_of(its.lines, its.arcs, slants), rows)
         left = joined_near(rows_of([it.edge() for it in given.smooth if it.view == view], []), rows)
-        if made.others:
-            yield f"{view} has {made.others} curves that are neither lines nor arcs"
-        smooth = functools.cache(functools.partial(smooth_rows, shape, view, least))
+        smooth = functools.cache(functools.partial(smooth_rows, shape, view, least_of(given, view)))
+        for (x, y), one, other in bends.differing(its, bends.Panel(made.lines, made.arcs, bent)):
+            yield f"{view}, on a curve at ({x:.6g}, {y:.6g}): the sheet has {one}, the solid {other}"
         for key in sorted(told.keys() | rows.keys()):
             both = told.get(key, []), rows.get(key, [])
             for low, high in stretches(both):
@@ -189,7 +210,7 @@ def differences(shape: "Part.Shape", given: Given) -> Iterator[str]:
 
 def smooth_rows(shape: "Part.Shape", view: str, least: Place) -> Rows:
     """The smooth edges of a view of a shape."""
-    return rows_of(moved(drawn(shape, view, SMOOTH).lines, [], least)[0], [])
+    return rows_of(moved(drawn(shape, view, SMOOTH), least).lines, [])
 
 
 def is_solid_near(rows: Rows, key: tuple[float, ...], at: float) -> bool:
@@ -202,11 +223,32 @@ def least_of(given: Given, view: str) -> Place:
     return (-given.extent(frame.right) if frame.right_back else 0.0), (-given.extent(frame.up) if frame.up_back else 0.0)
 
 
-def moved(lines: Sequence[Edge], arcs: Sequence[Arc], least: Place) -> tuple[list[Edge], list[Arc]]:
+def moved(made: View, least: Place) -> View:
+    """What is drawn of a view from its least corner on."""
     def there(place: Place) -> Place:
         return place[0] - least[0], place[1] - least[1]
 
-    return ([it._replace(start=there(it.start), end=there(it.end)) for it in lines], [it._replace(centre=there(it.centre)) for it in arcs])
+    return View([it._replace(start=there(it.start), end=there(it.end)) for it in made.lines], [it._replace(centre=there(it.centre)) for it in made.arcs],
+                [it._replace(places=tuple(map(there, it.places))) for it in made.bends])
+
+
+def parted(view: str, made: View, told: bends.Panel) -> tuple[list[Edge], list[Arc], list[Bend]]:
+    """The lines, arcs and other curves of a view of a solid: curves on a circle of the sheet are arcs of it, and oblique lines that the sheet has
+    none for are such curves, since it has curves that are straight among these."""
+    lines, arcs, bent = list[Edge](), list(made.arcs), list[Bend]()
+    slants = slants_of(told.lines)
+    for edge in made.lines:
+        if is_straight(edge, NEAR) or slant_under(edge, slants):
+            lines.append(edge)
+        else:
+            bent.append(Bend(view, edge.hidden, (edge.start, edge.end)))
+    for it in made.bends:
+        on = next((arc for arc in told.arcs if bends.is_on_circle(it.places, arc.centre, arc.radius, NEAR)), None)
+        if on:
+            arcs.append(bends.arc_along(it.hidden, it.places, on))
+        else:
+            bent.append(it)
+    return lines, arcs, bent
 
 
 def place_told(key: tuple[float, ...], low: float, high: float) -> str:
@@ -264,7 +306,7 @@ def smooth_doubts(shape: "Part.Shape", given: Given) -> tuple[int, int]:
     other = lacking = 0
     for view in {it.view for it in given.smooth}:
         least = least_of(given, view)
-        smooth, sharp = (moved(drawn(shape, view, groups).lines, [], least)[0] for groups in (SMOOTH, SHARP))
+        smooth, sharp = (moved(drawn(shape, view, groups), least).lines for groups in (SMOOTH, SHARP))
         rows, every = rows_of(smooth, []), rows_of([*smooth, *sharp], [])
         left = [it for it in given.smooth if it.view == view]
         told = joined_near(rows_of([*given.lines.get(view, []), *(it.edge() for it in left)], []), rows)

@@ -81,6 +81,13 @@ def places_of(entity: Any) -> list[Place]:
     return places if all(map(math.isfinite, itertools.chain(*places))) else []
 
 
+def places_upon(entity: Any) -> list[Place]:
+    """Places that lie on a curve for sure: where it was laid through enough of them, these."""
+    through_these = [(float(it[0]), float(it[1])) for it in entity.fit_points] if entity.dxftype() == "SPLINE" else []
+    is_known = len(through_these) >= FEWEST_CHORDS and all(map(math.isfinite, itertools.chain(*through_these)))
+    return through_these if is_known else places_of(entity)
+
+
 def straight_ends(places: Sequence[Place]) -> Line | None:
     """The ends of a level or upright line on which places lie."""
     if not places:

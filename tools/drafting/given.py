@@ -10,6 +10,8 @@ lines and arcs of each view, with which they are compared. All are from a view's
     draft cone TOP 40 25 3 4 0 2.2 sure     a centre, from a radius at a depth on to another, and whether nothing else can stand for it
     draft chamfer FRONT 8 12 20 30 back     the sharp corner of an oblique edge, and the one across from that; whether a wall goes back
     draft hole TOP 40 25 6 0 8              a hole or boss that was taken off: a centre, a radius, from a depth on to another
+    draft hole TOP 40 25 6 0 8 crossing 0 5 the same of one that crosses rounds, and between which depths its middle tells which of both it is
+    draft bend FRONT solid 40 25 41 25.3 .. a curve that is no arc, by places along it
     draft doubt WORDS
     draft suspect WORDS                     a curve that the other views don't confirm (`unconfirmed.py`), the most suspicious first
 """
@@ -17,6 +19,7 @@ import re
 from collections.abc import Callable, Iterator
 from typing import NamedTuple
 
+from .bends import Bend
 from .drawing import FURTHER, VIEWS, Place, content_of, pairs
 from .messages import Refused
 from .reading import Arc, Edge, Source
@@ -24,12 +27,15 @@ from .rounds import Quarter, Round, Slant
 
 NOWHERE = Source("drawn", "", "")
 MOST = 200_000
+# How many places of a curve stand in one comment, and with how many decimals.
+MOST_PLACES, DECIMALS = 8, 5
 VIEW = "|".join((*VIEWS, *FURTHER))
 FORMS = {
     "round": rf"({VIEW}) # # # ([1-4]{{1,4}})( inner)?( cut)?", "arc": rf"({VIEW}) (solid|dashed) # # # # #",
     "line": rf"({VIEW}) (solid|dashed) # # # #", "smooth": rf"({VIEW}) (upright|level) (solid|dashed) # # #",
     "cone": rf"({VIEW}) # # # # # #( sure)?", "reading": r"([1-9]\d{0,5}) of ([1-9]\d{0,5})", "moved": r"(\d{1,12}(?:\.\d{1,9})?)",
-    "chamfer": rf"({VIEW}) # # # #( back)?", "hole": rf"({VIEW}) # # # # #", "doubt": "(.*)", "suspect": "(.*)",
+    "chamfer": rf"({VIEW}) # # # #( back)?", "hole": rf"({VIEW}) # # # # #(?: crossing # #)?",
+    "bend": rf"({VIEW}) (solid|dashed)((?: -?\d{{1,12}}(?:\.\d{{1,9}})?){{4,{2 * MOST_PLACES}}})", "doubt": "(.*)", "suspect": "(.*)",
 }
 
 
@@ -111,20 +117,27 @@ class Cone(NamedTuple):
 
 class Hole(NamedTuple):
     """A hole or a boss that was taken off (`holes.py`): the view along its axis, its centre there and its radius, and from which depth along
-    the axis to which it goes."""
+    the axis to which it goes; and of one that crosses other rounds (`crossed.py`) between which depths its middle is full or empty throughout,
+    which tells which of both it is."""
 
     view: str
     centre: Place
     radius: float
     low: float
     high: float
+    probe: tuple[float, float] | None = None
+
+    def times(self, factor: float) -> "Hole":
+        x, y = self.centre
+        probe = None if self.probe is None else (self.probe[0] * factor, self.probe[1] * factor)
+        return Hole(self.view, (x * factor, y * factor), self.radius * factor, self.low * factor, self.high * factor, probe)
 
 
 class Given(NamedTuple):
     """What a drawing's comments say: the rounds, the lines and arcs by their views, what was left out as smooth, where squaring off may be
     wrong, the cones, and which reading of the sheet it is, of how many: one of a greater number changes more than to leave lines out; the
-    chamfers, the holes and bosses that were taken off, and the curves that other views don't confirm; and how far the drawing's coordinates lie
-    from the sheet's at most."""
+    chamfers, the holes and bosses that were taken off, the curves that other views don't confirm, and those that are no arcs; and how far the
+    drawing's coordinates lie from the sheet's at most."""
 
     rounds: list[Squared]
     lines: dict[str, list[Edge]]
@@ -136,7 +149,13 @@ class Given(NamedTuple):
     chamfers: tuple[Chamfer, ...] = ()
     holes: tuple[Hole, ...] = ()
     suspects: tuple[str, ...] = ()
+    bends: tuple[Bend, ...] = ()
     moved: float = 0.0
+
+    @property
+    def is_crossed(self) -> bool:
+        """Whether holes or bosses were taken off that cross other rounds: then no formula tells the volume."""
+        return any(it.probe for it in self.holes)
 
     @property
     def squared(self) -> list[Squared | Chamfer]:
@@ -176,7 +195,8 @@ def times(given: Given, factor: int) -> Given:
         smooth=[it._replace(at=it.at * factor, low=it.low * factor, high=it.high * factor) for it in given.smooth],
         cones=[it.times(factor) for it in given.cones],
         chamfers=tuple(it._replace(slant=Slant(place(it.slant.centre), place(it.slant.corner))) for it in given.chamfers),
-        holes=tuple(Hole(it.view, place(it.centre), it.radius * factor, it.low * factor, it.high * factor) for it in given.holes),
+        holes=tuple(it.times(factor) for it in given.holes),
+        bends=tuple(it._replace(places=tuple(map(place, it.places))) for it in given.bends),
         moved=given.moved * factor,
     )
 
@@ -220,7 +240,12 @@ def rows_of(given: Given) -> Iterator[str]:
     for cone in given.cones:
         yield f"cone {cone.view} {plain(*cone.centre, *cone[2:6])}{' sure' if cone.is_sure else ''}"
     yield from (f"chamfer {it.view} {plain(*it.slant.corner, *it.slant.centre)}{' back' if it.is_back else ''}" for it in given.chamfers)
-    yield from (f"hole {it.view} {plain(*it.centre, *it[2:])}" for it in given.holes)
+    for hole in given.holes:
+        yield f"hole {hole.view} {plain(*hole.centre, *hole[2:5])}" + (f" crossing {plain(*hole.probe)}" if hole.probe else "")
+    for bend in given.bends:
+        for at in range(0, len(bend.places) - 1, MOST_PLACES - 1):
+            places = (round(length, DECIMALS) for place in bend.places[at:at + MOST_PLACES] for length in place)
+            yield f"bend {bend.view} {styled(bend.hidden)} {plain(*places)}"
     yield from (f"doubt {text}" for text in given.doubts)
     yield from (f"suspect {text}" for text in given.suspects)
 
@@ -277,10 +302,18 @@ def chamfer_in(view: str, *told: str) -> Chamfer:
 
 
 def hole_in(view: str, *told: str) -> Hole:
-    x, y, radius, low, high = map(float, told)
-    if radius <= 0 or low >= high:
+    x, y, radius, low, high = map(float, told[:5])
+    probe = None if told[5] is None else (float(told[5]), float(told[6]))
+    if radius <= 0 or low >= high or probe and probe[0] >= probe[1]:
         raise Refused("a hole without a radius or a depth")
-    return Hole(view, (x, y), radius, low, high)
+    return Hole(view, (x, y), radius, low, high, probe)
+
+
+def bend_in(view: str, style: str, places: str) -> Bend:
+    its = [float(it) for it in places.split()]
+    if len(its) % 2:
+        raise Refused("a curve whose last place lacks a coordinate")
+    return Bend(view, style == "dashed", tuple(zip(its[::2], its[1::2])))
 
 
 def take_doubt(given: Given, text: str) -> None:
@@ -312,6 +345,8 @@ def given_in(lines: list[str]) -> Given | None:
             given = given._replace(chamfers=(*given.chamfers, chamfer_in(*told.groups())))
         elif word == "hole":
             given = given._replace(holes=(*given.holes, hole_in(*told.groups())))
+        elif word == "bend":
+            given = given._replace(bends=(*given.bends, bend_in(*told.groups())))
         elif word == "suspect":
             given = given._replace(suspects=(*given.suspects, told[1]))
         else:

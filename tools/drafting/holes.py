@@ -31,8 +31,9 @@ Spans = list[tuple[float, float]]
 
 
 class Hole(NamedTuple):
-    """A hole or a boss on the sheet: its view and circle, from which depth to which it goes, the lines that go with it, and whether it may
-    end within these depths."""
+    """A hole or a boss on the sheet: its view and circle, from which depth to which it goes, the lines that go with it, and whether other solids
+    may have it otherwise. Of one that crosses other rounds (`crossed.py`) also its circle as its lines from the side tell it, between which depths
+    its middle lies within nothing else, and the lines that close the outlines which it interrupts, by their views."""
 
     view: str
     one: Round
@@ -40,14 +41,20 @@ class Hole(NamedTuple):
     high: float
     left: tuple[Stretch, ...]
     is_open: bool
+    exact: Round | None = None
+    probe: tuple[float, float] | None = None
+    gaps: tuple[tuple[str, Edge], ...] = ()
 
 
-def holes_of(views: Views, taken: Sequence[Round]) -> list[Hole]:
-    """The holes and bosses that are taken off, but for circles that are taken as something else."""
+def holes_of(views: Views, taken: Sequence[Round], crossed: Sequence[Hole] = ()) -> list[Hole]:
+    """The holes and bosses that are taken off, with those that cross other rounds, but for circles that are taken as something else."""
     lines = {view: within(views, view) for view in views.boxes}
-    found: list[Hole] = []
+    for view, edge in (gap for it in crossed for gap in it.gaps):
+        lines[view].append(edge)
+    found: list[Hole] = list(crossed)
+    taken = [*taken, *(it.one for it in crossed)]
     for view, one in views.rounds:
-        others = [other for at, other in views.rounds if at == view and other is not one]
+        others = [other for at, other in views.rounds if at == view and other is not one and not any(it.one is other for it in crossed)]
         is_plain = view in VIEWS and len(one.numbers) == 4 and len({hidden for *_, hidden in one.pieces}) == 1 and one not in taken
         if is_plain and any(meet(one, other, views.tolerance) for other in others) and is_clear(one, others, lines[view], views.tolerance):
             sides = list(sides_of(views, view, one, lines))

@@ -107,14 +107,16 @@ def rounded_back(number: int, solid: Solid, given: Given, unit: int, with_shapes
     for way, by_formula in ways_of(solid, given, unit):
         if some and not by_formula:
             break
-        if with_shapes is None and not by_formula:
-            why = why or "cut by walls, which needs FreeCAD"
+        if with_shapes is None and not (by_formula and not given.is_crossed):
+            why = why or f"{'crossed by holes' if given.is_crossed else 'cut by walls'}, which needs FreeCAD"
             continue
         every = choices(solid, way, given, unit)
         why = why or ("" if every else "its holes and bosses don't have the places of all cones")
         for chosen in every:
-            plain, by_pi = volume_of(solid, way, unit, given.moved)
-            volume = (plain, by_pi + volume_by_pi(chosen, unit, given.moved) + holes.volume_by_pi(solid, way, given, unit)) if by_formula else None
+            volume = None
+            if by_formula and not given.is_crossed:
+                plain, by_pi = volume_of(solid, way, unit, given.moved)
+                volume = plain, by_pi + volume_by_pi(chosen, unit, given.moved) + holes.volume_by_pi(solid, way, given, unit)
             try:
                 shape, doubt = shape_and_doubt(solid, Rounds(way, chosen, by_formula), given, unit, with_shapes) if with_shapes else (None, "")
                 some.append(Kept(number, solid, volume, shape, doubt))

@@ -83,12 +83,15 @@ class Arc(NamedTuple):
 
 
 class Unread(NamedTuple):
-    """What can't be an edge as it is, and where; nowhere in particular, where that isn't known; and the linetype that tells no style."""
+    """What can't be an edge as it is, and where; nowhere in particular, where that isn't known; the linetype that tells no style; and of a curve
+    the places along it, and whether it is hidden."""
 
     why: str
     box: Box | None
     source: Source
     linetype: str = ""
+    places: tuple[Place, ...] = ()
+    hidden: bool = False
 
 
 class Kept(NamedTuple):
@@ -398,7 +401,8 @@ class Reader:
             self.sheet.changed[Thing(f"straight {kind} on layer {look.layer} taken as a line", look.layer, kind)] += 1
             self.sheet.edges.append(Edge(hidden, *taken, look.colour, source))
         else:
-            self.sheet.unread.append(Unread(curves.neither(curves.places_of(entity)), box_of(entity), source))
+            places = curves.places_upon(entity)
+            self.sheet.unread.append(Unread(curves.neither(curves.places_of(entity)), box_of(entity), source, places=tuple(places), hidden=hidden))
 
     def lines(self, entity: Any, kind: str, hidden: bool, look: Look, source: Source) -> None:
         parts = [entity]

@@ -10,7 +10,7 @@ corner, in the layers where the corner's inside is full, and by filling it where
    whose radius is no greater, may go on behind such a boss, or be filled by it;
 2. in the layers next to it no boundary runs along these sides, but that of such a wall;
 3. where quarters end a wall of some length goes on, along the round or across it;
-4. rounds of different views don't meet in space.
+4. rounds of different views don't meet in space, but for holes and bosses that are taken off (`crossed.py`).
 
 Then along each sight line of another view R is S with ends moved past no other end, and each style is the same. 3 is checked here, and
 refused; where 1 may fail on the sheet, it is told that other solids may be missed; 1 is looked at again for each solid (`rounded.py`),

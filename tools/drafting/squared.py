@@ -9,10 +9,12 @@ from collections.abc import Iterator, Mapping, Sequence
 from fractions import Fraction
 from typing import NamedTuple
 
-from . import chamfers, cones, given, holes, noted, rounds, section_views, sheet, tangent, unconfirmed
+from . import chamfers, cones, crossings, given, holes, noted, rounds, section_views, sheet, tangent, unconfirmed
+from .bends import Bend
+from .crossed import check_crossings, crossed_holes
 from .cutting import Mark
 from .drawing import VIEWS, Place
-from .evened import evened, upon
+from .evened import evened, upon, with_circles, with_unread
 from .given import Cone, Given, Stretch
 from .groups import Group, frames, holds, meet, merged, pieces_of
 from .messages import Refused, many
@@ -50,7 +52,7 @@ class Cones(NamedTuple):
 
 class Found(NamedTuple):
     """What is read of a sheet, and its cutting-plane lines: its lines, its arcs within the views, and where these are; its cones, the holes that are
-    taken off, the arcs in its sections, and the ways in which other oblique edges are squared to corners."""
+    taken off, the curves where these cross rounds, the arcs in its sections, and the ways in which other oblique edges are squared to corners."""
 
     path: str | None
     sheet: Sheet
@@ -61,6 +63,7 @@ class Found(NamedTuple):
     arguments: argparse.Namespace
     cones: "Cones"
     holes: Sequence[holes.Hole]
+    curves: Sequence[crossings.Curve] = ()
     cut: Sequence[Arc] = ()
     corners: Sequence[tuple[chamfers.Squared, ...]] = ((),)
     has_all_corners: bool = True
@@ -72,7 +75,8 @@ class Found(NamedTuple):
     def views(self, rounds_of: Sequence[Round]) -> Views:
         boxes = {view: group.box for view, group in self.placed.views.items()}
         placed = [(view, one) for one in rounds_of for view, box in boxes.items() if holds(box, one.box, OF_ONE * self.tolerance)]
-        return Views(boxes, self.lines, placed, self.tolerance, self.placed.mirrored)
+        closed = [*self.lines, *(edge for it in self.holes for _, edge in it.gaps)]
+        return Views(boxes, closed, placed, self.tolerance, self.placed.mirrored)
 
 
 # ---- which arcs are of the views
@@ -100,9 +104,11 @@ def arcs_beside(edges: Sequence[Edge], arcs: Sequence[Arc], curves: Sequence[Unr
 
 def read(path: str | None, read_sheet: Sheet, marks: Sequence[Mark], arguments: argparse.Namespace, tell: Tell) -> Found:
     """What is read of a sheet with arcs, and where its views are."""
-    tolerance, edges, arcs = arguments.tolerance, read_sheet.edges, read_sheet.arcs
-    if len(arcs) > MOST_ARCS:
-        raise Refused(f"{len(arcs):,} circles and arcs, more than {MOST_ARCS:,}")
+    tolerance = arguments.tolerance
+    if len(read_sheet.arcs) > MOST_ARCS:
+        raise Refused(f"{len(read_sheet.arcs):,} circles and arcs, more than {MOST_ARCS:,}")
+    read_sheet = with_circles(read_sheet)
+    edges, arcs = read_sheet.edges, read_sheet.arcs
     if apart := next((arc for arc in arcs if arc.source.file), None):  # of oblique edges sheet.py sees to that
         raise Refused(f"in {apart.source.view} a {where(apart.source, path)} is no straight line, and circles and arcs are read where "
                       "all views stand on one sheet")
@@ -117,11 +123,15 @@ def read(path: str | None, read_sheet: Sheet, marks: Sequence[Mark], arguments: 
     if missing := [view for view in VIEWS if view not in placed.views]:
         raise Refused(f"{missing[0]} isn't drawn, and a sheet with circles or arcs is read where all three main views are there: draw it too")
     # What no reading changes is refused at once.
-    refuse_unread(path, placed, read_sheet.unread, tolerance)
+    views = Found(path, read_sheet, marks, edges, kept, placed, arguments, Cones((), {}, (), ()), ()).views(rounds.rounds_of(kept, tolerance))
+    parts = crossings.parted(views, edges, kept, read_sheet.unread)
+    refuse_unread(path, placed, crossings.with_meaning(parts.unread, parts), tolerance)
+    read_sheet, edges, kept = with_unread(read_sheet, parts.unread), parts.edges, parts.arcs
     round_ones = cones_in(placed, edges, rounds.rounds_of(kept, tolerance), tolerance)
     views = Views({view: group.box for view, group in placed.views.items()}, edges, [], tolerance, placed.mirrored)
     oblique, causes = chamfers.chamfers_of(views, round_ones.flanks)
-    refuse_oblique(path, placed, [*round_ones.flanks, *(edge for one in oblique for edge in one.edges)], lambda edge: not_taken(causes.get(edge)))
+    known = [*parts.gone, *round_ones.flanks, *(edge for one in oblique for edge in one.edges)]
+    refuse_oblique(path, placed, known, lambda edge: not_taken(causes.get(edge)))
     sections = placed.sections if are_told(placed.sections, marks) else ()
     cut = [arc for arc in kept if any(meet(it.group.box, arc_box(arc), tolerance) for it in sections)]
     for arc in kept:
@@ -132,7 +142,10 @@ def read(path: str | None, read_sheet: Sheet, marks: Sequence[Mark], arguments: 
     within = [arc for arc in kept if not any(arc is it for it in (*left, *cut))]
     every = Found(path, read_sheet, marks, edges, within, placed, arguments, round_ones, ()).views(rounds.rounds_of(within, tolerance))
     taken = [one for view, one in every.rounds if is_of_cone(view, one, placed, round_ones.its, tolerance)]
-    return Found(path, read_sheet, marks, edges, within, placed, arguments, round_ones, holes.holes_of(every, taken), cut, *chamfers.choices(views, oblique))
+    crossed, why = crossed_holes(every, parts.met.crossings, taken)
+    its = holes.holes_of(every, taken, crossed)
+    check_crossings(path, parts.met, its, why)
+    return Found(path, read_sheet, marks, edges, within, placed, arguments, round_ones, its, parts.met.curves, cut, *chamfers.choices(views, oblique))
 
 
 def is_of_cone(view: str, one: Round, placed: Placed, its: Sequence[Cone], tolerance: float) -> bool:
@@ -195,7 +208,8 @@ def squared(found: Found, reading: Reading, corners: Sequence[chamfers.Squared])
     views = found.views(rounds.rounds_of(found.arcs, found.tolerance))
     lines = tangent.without(found.lines, reading.left, found.tolerance)
     left = [*found.cones.across, *(stretch for it in found.holes for stretch in it.left)]
-    rest = tangent.without(lines, [(it, True) for it in left], found.tolerance)
+    closed = [*lines, *(edge for it in found.holes for _, edge in it.gaps)]
+    rest = tangent.without(closed, [(it, True) for it in left], found.tolerance)
     stepped = chamfers.squared_off([it for edge in rest for it in found.cones.flanks.get(edge, (edge,))], corners, found.tolerance)
     in_sections, in_views = apart(stepped, found)
     given_edges = [*in_views, *tangent.added(views, reading)]
@@ -207,7 +221,8 @@ def squared(found: Found, reading: Reading, corners: Sequence[chamfers.Squared])
         squares = rounds.Squaring(remapped(given_edges, cut, found), its, found.tolerance, reading.is_eager).done()
     squares = squares._replace(edges=tangent.without(squares.edges, [(it, True) for it in reading.contacts], found.tolerance))
     squares.doubts.extend(chamfers.doubts_of(corners, [it for it in lines if is_straight(it, OF_ONE * found.tolerance)], its, found.tolerance))
-    squares.doubts.extend(f"a {it.one} may end where another line goes across" for it in found.holes if it.is_open)
+    squares.doubts.extend(f"a {it.one} {'that crosses a round may have another depth' if it.probe else 'may end where another line goes across'}"
+                          for it in found.holes if it.is_open)
     squares.doubts.extend([] if found.has_all_corners else [f"its oblique edges may be squared off in more than {chamfers.MOST} ways"])
     of_sections = rounds.Squaring(in_sections, rounds.rounds_of(found.cut, found.tolerance), found.tolerance, False).done()
     return lines, squares._replace(edges=[*squares.edges, *of_sections.edges])
@@ -227,7 +242,8 @@ def unlike(found: Found, reading: Reading, corners: Sequence[chamfers.Squared], 
     if edge := next(iter(found.cones.flanks), None) or next((edge for it in corners for edge in it.one.edges), None):
         return f"in a view the {edge.source} is oblique, and what a section shows of such an edge isn't read"
     if hole := next(iter(found.holes), None):
-        return f"the square of a {hole.one} meets others, and what a section shows of such ones isn't read"
+        which = f"a {hole.one} crosses a round" if hole.probe else f"the square of a {hole.one} meets others"
+        return f"{which}, and what a section shows of such ones isn't read"
     if cut or reading.inner or reading.is_eager:
         which = f"a {cut}" if cut else "its rounds"
         return f"{which} may be cut by walls or end free, and what a section shows of such ones isn't read"
@@ -279,8 +295,11 @@ class Frame(NamedTuple):
         return given.Squared(view, self.place(one.centre), one.radius * self.times, quarters, bool(one.cuts))
 
     def hole(self, it: holes.Hole, noise: float) -> given.Hole:
-        radius, low, high = (without_noise(length * self.times, noise * self.times) for length in (it.one.radius, it.low, it.high))
-        return given.Hole(it.view, self.place(it.one.centre), radius, low, high)
+        one, off = it.exact or it.one, (OF_ONE if it.exact and it.exact != it.one else 1) * noise * self.times
+        (x, y), probe = self.place(one.centre), it.probe and (it.probe[0] * self.times, it.probe[1] * self.times)
+        centre = (without_noise(x, off), without_noise(y, off)) if it.exact and it.exact != it.one else (x, y)
+        radius, low, high = (without_noise(length * self.times, off) for length in (one.radius, it.low, it.high))
+        return given.Hole(it.view, centre, radius, low, high, probe)
 
     def chamfer(self, it: chamfers.Squared) -> given.Chamfer:
         return given.Chamfer(it.one.view, rounds.Slant(self.place(it.slant.centre), self.place(it.slant.corner)), chamfers.End.BACK in it.ends)
@@ -306,6 +325,8 @@ def given_by(
         result.arcs[view] = [frame.arc(it) for it in found.arcs if holds(group.box, arc_box(it), noise)]
         result.lines[view] = [frame.edge(it) for it in lines if holds(group.box, box_of([it.start, it.end]), noise)]
         result.smooth.extend(frame.stretch(it) for it, _ in left if it.view == view)
+    result = result._replace(bends=tuple(Bend(it.view, it.hidden, tuple(map(Frame(placed.views[it.view], times, placed.mirrored).place, it.places)))
+                                         for it in found.curves))
     if len(result.rounds) != len(squares.rounds):
         raise Refused(f"{many(len(squares.rounds) - len(result.rounds), 'round')} of the sheet lie in no view once squared off, or in two")
     return result
@@ -402,8 +423,9 @@ def suspects_of(found: Found) -> tuple[str, ...]:
 
 
 def tell_squares(told: Given, tell: Tell) -> None:
-    for view, count in Counter(it.view for it in told.holes).items():
-        tell(noted.left_out(f"of {view} {many(count, 'hole or boss', 'holes or bosses')} whose squares would meet others, which are put back", count, view))
+    for words, its in (("whose squares would meet others", [it for it in told.holes if not it.probe]), ("that cross other rounds", [it for it in told.holes if it.probe])):
+        for view, count in Counter(view for view, *_ in {(it.view, it.centre, it.radius) for it in its}).items():
+            tell(noted.left_out(f"of {view} {many(count, 'hole or boss', 'holes or bosses')} {words}, which are put back", count, view))
     for view in dict.fromkeys(it.view for it in told.squared):
         circles = [it for it in told.rounds if it.view == view]
         if circles:

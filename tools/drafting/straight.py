@@ -13,6 +13,8 @@ from .reading import Box, Edge, Source
 
 # How many times as far apart as the tolerance different coordinates of a view have to be.
 APART = 4
+# How many times as long as the tolerance a line is that another export of its sheet has to have too: curves are written in shorter pieces.
+LEAST = 4
 # The greatest denominator that is looked for where coordinates fit no decimals: thirds, sevenths, sixty-fourths.
 MOST_PARTS = 64
 # The most decimals that recon reads.
@@ -119,7 +121,7 @@ def hidden_by(whole: Sequence[Edge], visible: Sequence[Edge], tolerance: float) 
             is_seen = any(it.low <= (low + high) / 2 <= it.high for it in beside)
             start, end = ((run.at, it) if run.upright else (it, run.at) for it in (low, high))
             edges.append(Edge(not is_seen, start, end, run.edge.colour, run.edge.source))
-    lost = [run for way in lines.values() for run in way if id(run) not in covered]
+    lost = [run for way in lines.values() for run in way if id(run) not in covered and run.high - run.low > LEAST * tolerance]
     if lost:
         raise Refused(f"the sheets aren't two exports of one drawing: the one without hidden lines has {lost[0].edge.source} at "
                       f"{lost[0].edge.start}, which the other lacks")

@@ -1,11 +1,12 @@
-"""Two exports of one sheet, one without hidden lines, of which each line and arc that this one lacks is hidden."""
+"""Two exports of one sheet, one without hidden lines, of which each line, arc and curve that this one lacks is hidden."""
 import itertools
 import math
 from collections.abc import Iterator, Sequence
 
 from . import rounds, tangent
+from .bends import NEAR, is_on
 from .given import Stretch
-from .reading import Arc, Edge
+from .reading import Arc, Edge, Unread
 from .rounds import OF_ONE, is_level, is_straight
 
 
@@ -20,6 +21,14 @@ def arcs_hidden_by(whole: Sequence[Arc], visible: Sequence[Arc], tolerance: floa
             if high - low > noise:
                 seen = any((arc.start + (low + high) / 2 - it.start) % 360 <= it.sweep for it in beside)
                 yield arc._replace(hidden=not seen, start=(arc.start + low) % 360, sweep=high - low)
+
+
+def curves_hidden_by(whole: Sequence[Unread], visible: Sequence[Unread]) -> Iterator[Unread]:
+    """The curves of a sheet, hidden where its export without hidden lines lacks them: programs cut them where that changes."""
+    seen = [it.places for it in visible if it.places]
+    for it in whole:
+        inner = it.places[1:-1] or it.places
+        yield it._replace(hidden=not all(any(is_on(place, its, NEAR) for its in seen) for place in inner[::max(1, len(inner) // 16)]))
 
 
 Row = tuple[bool, float]

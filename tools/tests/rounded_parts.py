@@ -9,9 +9,8 @@ from typing import Any
 import ezdxf
 
 from drafting.bodies import read_back
-from drafting.cad import FreeCAD, Part, TechDraw
-from drafting.compared import SHARP, drawn
-from drafting.shapes import DIRECTIONS
+from drafting.cad import FreeCAD, Part
+from drafting.compared import SHARP, drawn, projected
 
 AXES = (FreeCAD.Vector(1, 0, 0), FreeCAD.Vector(0, 1, 0), FreeCAD.Vector(0, 0, 1))
 Box = tuple[list[float], list[float]]
@@ -175,6 +174,64 @@ def random_part(seed: int) -> Any:
     return shape if is_round and shape.isValid() and len(shape.Solids) == 1 else None
 
 
+# ---- random parts whose holes cross
+
+class Crosser:
+    """Makes one random part in which a bore, or a shaft, is crossed by holes of another view: ports of a block, a set screw's hole through a hub, or a
+    pin's through a shaft; along any axes."""
+
+    def __init__(self, chance: random.Random) -> None:
+        self.chance = chance
+        self.along, self.across = chance.sample((0, 1, 2), 2)
+        self.radius = chance.randint(5, 9)
+        self.narrow = chance.choice((1.5, 2, 2.5, 3, 4, self.radius))
+
+    def plan(self, axis: int, place: list[float]) -> tuple[float, float]:
+        x, y = (at for number, at in enumerate(place) if number != axis)
+        return x, y
+
+    def made(self) -> Any:
+        return self.chance.choice((self.block, self.block, self.hub, self.shaft))()
+
+    def block(self) -> Any:
+        size = [self.chance.randint(36, 50) for _ in range(3)]
+        centre = [float(self.chance.randint(self.radius + 5, it - self.radius - 5)) for it in size]
+        shape = box(0, 0, 0, *size).cut(cylinder(self.along, self.plan(self.along, centre), 0, size[self.along], self.radius))
+        slack = 3 - self.along - self.across
+        for at in self.chance.sample((0.3, 0.7), self.chance.randint(1, 2)):
+            place, wide = list(centre), min(self.narrow, self.radius - 1 if self.chance.random() < 0.7 else self.radius)
+            place[self.along] = float(round(at * size[self.along]))
+            place[slack] += self.chance.choice((0, 0, 0, 1, -1)) if wide < self.radius - 1 else 0
+            depth = self.chance.choice((size[self.across], centre[self.across]))
+            shape = shape.cut(cylinder(self.across, self.plan(self.across, place), 0, depth, min(wide, 4)))
+        return shape.removeSplitter()
+
+    def hub(self) -> Any:
+        wide, thick = self.radius + self.chance.randint(3, 5), self.chance.randint(6, 9)
+        middle = [22.0, 22.0]
+        shape = cylinder(self.along, (22, 22), 0, thick, 22).fuse(cylinder(self.along, (22, 22), thick, thick + 20, wide))
+        shape = shape.cut(cylinder(self.along, (22, 22), 0, thick + 20, self.radius)).removeSplitter()
+        place = [*middle[:self.along], thick + 10.0, *middle[self.along:]]
+        end = self.chance.choice((22, 44))
+        return shape.cut(cylinder(self.across, self.plan(self.across, place), 0, end, min(self.narrow, self.radius - 1, 4))).removeSplitter()
+
+    def shaft(self) -> Any:
+        wide = self.radius + 4
+        shape = cylinder(self.along, (16, 16), 0, 25, wide).fuse(cylinder(self.along, (16, 16), 25, 45, wide - 3))
+        place = [16.0, 16.0]
+        for at in self.chance.sample((10.0, 35.0), self.chance.randint(1, 2)):
+            there = self.plan(self.across, [*place[:self.along], at, *place[self.along:]])
+            shape = shape.cut(cylinder(self.across, there, 0, 32, min(self.narrow, 4)))
+        return shape.removeSplitter()
+
+
+def crossing_part(seed: int) -> Any:
+    """A random part whose holes cross rounds of another view."""
+    shape = Crosser(random.Random(seed)).made()
+    assert shape.isValid() and len(shape.Solids) == 1
+    return shape
+
+
 # ---- sheets
 
 More = Callable[[Any, dict[str, tuple[float, float]]], None]
@@ -220,20 +277,15 @@ def draw(space: Any, shape: Any, view: str, place: tuple[float, float], groups: 
         if are_in_line(points):
             space.add_line(there[0], there[-1], dxfattribs=look)
         else:
-            space.add_open_spline(there, dxfattribs=look)
+            space.add_spline(there, dxfattribs=look)
 
 
 def bent(shape: Any, view: str, groups: Iterable[int]) -> Iterable[tuple[bool, list[tuple[float, float]]]]:
     """What of a view is neither a level or upright line nor an arc, as points."""
-    direction, turned = DIRECTIONS[view]
-    made = TechDraw.projectEx(shape, FreeCAD.Vector(*direction))
-    for number in groups:
-        for edge in [] if made[number].isNull() else made[number].Edges:
-            low, high = edge.ParameterRange
-            points = [turned(it.x, it.y) for it in (edge.valueAt(low + (high - low) * at / 16) for at in range(17))]
-            extents = [max(its) - min(its) for its in zip(*points)]
-            if edge.Curve.TypeId != "Part::GeomCircle" and min(extents) >= 1e-6:
-                yield number >= 5, points
+    for it in projected(shape, view, tuple(groups)):
+        extents = [max(its) - min(its) for its in zip(*it.places)]
+        if it.fine and min(extents) >= 1e-6:
+            yield it.hidden, it.fine
 
 
 def are_in_line(points: list[tuple[float, float]]) -> bool:
@@ -251,8 +303,18 @@ def middle(shape: Any) -> Any:
 
 
 def are_same(one: Any, other: Any) -> bool:
-    """Whether two shapes are the same, once their middles are in one place: by volume and by what one alone has."""
+    """Whether two shapes are the same, once their middles are in one place: by volume and by what one alone has. Where FreeCAD fails at shapes that
+    lie a rounding error apart, they are moved by so many whole parts of a unit."""
+    off = middle(one) - middle(other)
+    return abs(one.Volume - other.Volume) < 1e-6 * other.Volume and any(
+        apart(one, other, way) < 1e-6 * other.Volume for way in (off, FreeCAD.Vector(*(round(it, 4) for it in off))))
+
+
+def apart(one: Any, other: Any, way: Any) -> float:
+    """What of two shapes one alone has, once the other one is moved; without end where FreeCAD can't tell it."""
     moved = other.copy()
-    moved.translate(middle(one) - middle(moved))
-    apart = one.cut(moved).Volume + moved.cut(one).Volume
-    return bool(abs(one.Volume - other.Volume) < 1e-6 * other.Volume and apart < 1e-6 * other.Volume)
+    moved.translate(way)
+    try:
+        return float(one.cut(moved).Volume + moved.cut(one).Volume)
+    except RuntimeError:
+        return math.inf

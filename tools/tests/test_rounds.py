@@ -14,7 +14,7 @@ from drafting.solve import rounded_told
 from .support import draft, in_words, needs_long, needs_module, needs_program
 
 try:
-    from drafting.cad import Part
+    from drafting.cad import FreeCAD, Part
     from . import rounded_parts as parts
     from .rounded_parts import box, cylinder, filleted, obround
     missing = ""
@@ -226,7 +226,8 @@ class Refusals(InAFolder):
         self.refused(plate, r"circle of radius 5.8 .* on layer THREADS\) ends at .*: it is a thread", thread)
         asked = self.asked("--leave-out", "layer=THREADS")
         self.exact(plate, asked)
-        self.refused(box(0, 0, 0, 50, 40, 30).cut(cylinder(2, (25, 20), 0, 30, 6)).cut(cylinder(0, (20, 15), 0, 50, 4)),
+        slanted = Part.makeCylinder(3, 90, FreeCAD.Vector(-10, 6, -10), FreeCAD.Vector(1, 0, 1))
+        self.refused(box(0, 0, 0, 50, 40, 30).cut(cylinder(2, (25, 30), 0, 30, 4)).cut(slanted),
                      r"a SPLINE .* is neither a level or upright line nor an arc, from \S+, \S+ to \S+, \S+: where holes cross")
 
     def test_too_many_circles(self) -> None:
