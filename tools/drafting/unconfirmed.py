@@ -27,12 +27,14 @@ class Suspect(NamedTuple):
 
 
 class Outline(NamedTuple):
-    """Where a view from the side has an outline of a round: across its axis, on the sheet, and from which depth to which along it."""
+    """Where a view from the side has an outline of a round: across its axis, on the sheet, from which depth to which along it, and whether that
+    is along the view's border."""
 
     view: str
     is_upright: bool
     at: float
     spans: Spans
+    is_border: bool
 
     @property
     def length(self) -> float:
@@ -59,7 +61,9 @@ def outlines(view: str, one: Round, views: Views) -> Iterator[Outline]:
         for corner in sorted({quarter.corner[0 if axis == FRAMES[view].right else 1] for quarter in one.quarters}):
             place = views.place(side.view, axis, views.depth(view, axis, corner))
             spans = (sorted(views.depth(side.view, sight, it) for it in span) for span in side.spans(place, noise))
-            yield Outline(side.view, side.is_upright, place, joined(sorted((low, high) for low, high in spans), noise))
+            box = views.boxes[side.view]
+            is_border = min(abs(place - box[at]) for at in ((0, 2) if side.is_upright else (1, 3))) <= noise
+            yield Outline(side.view, side.is_upright, place, joined(sorted((low, high) for low, high in spans), noise), is_border)
 
 
 def suspected(view: str, one: Round, its: Sequence[Outline], tolerance: float) -> Iterator[Suspect]:
@@ -67,7 +71,7 @@ def suspected(view: str, one: Round, its: Sequence[Outline], tolerance: float) -
     noise, common = OF_ONE * tolerance, its[0].spans if its else []
     for it in its[1:]:
         common = [(max(a, low), min(b, high)) for a, b in common for low, high in it.spans if min(b, high) > max(a, low) + noise]
-    shared, most = sum(high - low for low, high in common), max((it.length for it in its), default=0.0)
+    shared, most = sum(high - low for low, high in common), max((it.length for it in its if not it.is_border), default=0.0)
     if lacking := [it for it in its if not it.spans]:
         yield Suspect(1, f"the {one} in {view}, whose outline {listed(lacking)} isn't drawn: something cuts it off, or it goes over into what is wider")
     elif not common:
