@@ -18,8 +18,8 @@ SECONDS = 300.0
 # What a sheet leaves open of its lines.
 OPEN = "Which of its lines are tangent edges, or which corners oblique ones cut off or fill,"
 # What is told where no solid is kept: of curves that don't stand free as far as the sheet shows it, so many, or of none.
-CAUSE, MOST_TOLD = "The likely cause is a curve that doesn't stand free:", 4
-UNKNOWN = "The cause isn't a curve that the other views don't confirm: a line lacks or is too much, or is another one's (draft why)."
+CAUSE, MOST_TOLD = "The likely cause is {} that doesn't stand free:", 4
+UNKNOWN = "The cause isn't known, since the other views confirm each curve: a line lacks or is too much (draft why), or something doesn't stand free."
 # What runs the program over a drawing of so many decimals.
 Asker = Callable[[bytes, int], program.Run]
 
@@ -92,7 +92,8 @@ class Readings(NamedTuple):
         if not its:
             return [UNKNOWN]
         more = f"; and {len(its) - MOST_TOLD} more" if len(its) > MOST_TOLD else ""
-        return [f"{CAUSE} {'; '.join(its[:MOST_TOLD])}{more}."]
+        cause = CAUSE.format("a curve or an oblique edge" if given.chamfers else "a curve")
+        return [f"{cause} {'; '.join(its[:MOST_TOLD])}{more}."]
 
     def told(self) -> list[str]:
         """All that is told beside the solids that are kept."""

@@ -12,9 +12,11 @@ the sheet has to show, at each end, a line across the corner's side or along it,
 lines along the sight at both ends, which have a stretch in common. Else an edge is refused: it is oblique in more than one view, or goes on
 otherwise. All ways to square the edges of a sheet that this leaves are tried, each with each; where lines or rounds come into a triangle, or
 there are more ways, it is told that other solids may be missed; and each solid is compared with the sheet.
+
+Where a line ends upon an oblique edge, and nothing goes on beyond, a wall ends at what that is the edge of: as a step does at the groove that
+goes through it. That end is moved to the side of the corner, in the other views too.
 """
 import enum
-import functools
 import itertools
 import math
 from collections.abc import Iterable, Iterator, Mapping, Sequence
@@ -26,9 +28,9 @@ from .groups import holds
 from .messages import Refused
 from .panels import FRAMES
 from .reading import Edge
-from .rounds import BESIDE, OF_ONE, Round, Slant, box_of, covers, is_level, is_straight
+from .rounds import BESIDE, OF_ONE, Round, Slant, box_of, covers, is_level, is_on, is_straight
 from .straight import along, off
-from .tangent import Views, shared_axis, span_of, within, without
+from .tangent import Left, Views, shared_axis, span_of, within, without
 
 # The most ways to square the oblique edges of a sheet that are tried, and that are looked at.
 MOST, MOST_TRIED = 64, 4096
@@ -64,12 +66,21 @@ class Chamfer(NamedTuple):
 
 class Squared(NamedTuple):
     """A chamfer, the corner to which it is squared, how walls go on at its ends, on the upright and on the level side of the corner, and the
-    stretches that are left out then."""
+    stretches that are left out then, each alone or with what lies under it."""
 
     one: Chamfer
     slant: Slant
     ends: tuple[End, End] = (End.TURNS, End.TURNS)
-    left: tuple[Stretch, ...] = ()
+    left: Left = ()
+
+
+class Move(NamedTuple):
+    """The end of a line upon a chamfer, moved along it, to the right or upwards, to a side of the corner."""
+
+    one: Squared
+    along: int
+    before: float
+    after: float
 
 
 def slants_of(edge: Edge | Chamfer) -> tuple[Slant, Slant]:
@@ -148,7 +159,9 @@ def cause_in(views: Views, one: Chamfer, lines: Mapping[str, list[Edge]]) -> str
     if not common_spans(views, one, lines):
         return "the views from its side don't show lines along it at both its ends, side by side"
     if not ways_of(one, Ends(lines[one.view], [it for edge in oblique_beside(views, one) for it in slants_of(edge)], views.tolerance)):
-        return "where it ends no level or upright line goes on away from it"
+        others = (it for view, it in views.rounds for end in (one.start, one.end) if view == one.view and is_on(it, end, views.tolerance))
+        upon = next(others, None)
+        return f"it ends upon a {upon}, and not at a corner" if upon else "where it ends no level or upright line goes on away from it"
     return ""
 
 
@@ -231,11 +244,28 @@ def goes_on(slant: Slant, at: int) -> int:
     return slant.up if at == 0 else slant.right
 
 
-def ways_of(one: Chamfer, ends: Ends) -> list[Squared]:
-    """How a chamfer may be squared. What goes straight on along lines at both ends turns at both with the other corner."""
+def ways_of(one: Chamfer, ends: Ends, is_met: bool = False) -> list[Squared]:
+    """How a chamfer may be squared. What goes straight on along lines at both ends turns at both with the other corner, which serves where
+    nothing is met there."""
     plain, both_on = ends._replace(others=[]), (End.ON, End.ON)
     return [Squared(one, slant, its) for its in itertools.product(End, End) if its != (End.BACK, End.BACK) for slant in one.slants
-            if all(ends.fits(slant, at, its[at]) for at in (0, 1)) and not (its == both_on and all(plain.fits(slant, at, End.ON) for at in (0, 1)))]
+            if all(ends.fits(slant, at, its[at]) for at in (0, 1)) and (is_met or not (its == both_on and goes_on_plainly(slant, plain)))]
+
+
+def goes_on_plainly(slant: Slant, plain: Ends) -> bool:
+    """Whether lines go straight on at both ends of a corner."""
+    return all(plain.fits(slant, at, End.ON) for at in (0, 1))
+
+
+def views_met(views: Views, main: Sequence[Chamfer], lines: Mapping[str, list[Edge]]) -> set[str]:
+    """The views in which a round comes between a chamfer and the corner with which it turns at both ends."""
+    return {one.view for one in main for slant in one.slants if goes_on_plainly(slant, Ends(lines[one.view], [], views.tolerance))
+            and any(view == one.view and comes_into(slant.across(), it, views.tolerance) for view, it in views.rounds)}
+
+
+def comes_into(slant: Slant, one: Round, tolerance: float) -> bool:
+    """Whether a round comes between an oblique edge and its corner."""
+    return any(slant.is_before(quarter.along(step / 32), tolerance) for quarter in one.quarters for step in range(33))
 
 
 def choices(views: Views, found: Sequence[Chamfer]) -> tuple[list[tuple[Squared, ...]], bool]:
@@ -243,14 +273,15 @@ def choices(views: Views, found: Sequence[Chamfer]) -> tuple[list[tuple[Squared,
     none; and whether these are all."""
     lines = {view: within(views, view) for view in views.boxes}
     main = [one for one in found if one.view in VIEWS]
-    every = [[it for it in map(functools.partial(with_left, views), ways_of(one, Ends(lines[one.view], beside_in(found, one), views.tolerance))) if it]
-             for one in main]
+    met = views_met(views, main, lines)
+    every = [[left for it in ways_of(one, Ends(lines[one.view], beside_in(found, one), views.tolerance), one.view in met)
+              if (left := with_left(views, it, found, lines))] for one in main]
     ways = []
     for its in itertools.islice(itertools.product(*every), MOST_TRIED):
         if all(do_fit(it, Ends(lines[it.one.view], [other.slant for other in its if other.one.view == it.one.view and other is not it],
                                views.tolerance)) for it in its):
             ways.append((*its, *(seen for one in found if one.view in FURTHER for seen in seen_behind(views, one, its))))
-    ways.sort(key=lambda its: sum(len(it.left) for it in its))
+    ways.sort(key=lambda its: sum(len({(stretch.view, stretch.at) for stretch, _ in it.left}) for it in its))
     if found and not ways:
         bare = next((one for one, its in zip(main, every) if not its), main[0])
         raise Refused(f"in {bare.view} an {bare} is squared off to neither corner: at one of its ends two oblique edges meet otherwise than at a "
@@ -267,11 +298,10 @@ def do_fit(it: Squared, ends: Ends) -> bool:
     return all(ends.fits(it.slant, at, it.ends[at]) for at in (0, 1))
 
 
-def with_left(views: Views, it: Squared) -> Squared | None:
-    """What is left out where a chamfer goes straight on, or back; nothing where that is a view's border."""
-    left: list[Stretch] = []
-    lines = {view: within(views, view) for view in views.boxes}
-    frame, sight = FRAMES[it.one.view], FRAMES[it.one.view].sight
+def with_left(views: Views, it: Squared, found: Sequence[Chamfer], lines: Mapping[str, list[Edge]]) -> Squared | None:
+    """What is left out where a chamfer, one of those that were found, goes straight on, or back; nothing where that is a view's border."""
+    left: list[tuple[Stretch, bool]] = []
+    frame, sight, noise = FRAMES[it.one.view], FRAMES[it.one.view].sight, OF_ONE * views.tolerance
     for at in (at for at in (0, 1) if it.ends[at] is not End.TURNS):
         axis = frame.up if at == 0 else frame.right
         for other in (view for view in views.boxes if shared_axis(it.one.view, view) == axis):
@@ -279,13 +309,26 @@ def with_left(views: Views, it: Squared) -> Squared | None:
             place = placed_in(views, it.one.view, other, axis, it.slant.ends[at])
             if min(abs(place - box[side]) for side in ((0, 2) if is_upright else (1, 3))) < BESIDE * views.tolerance:
                 return None
+            ends = [placed_in(views, one.view, other, axis, end) for one in found if one is not it.one and axis in FRAMES[one.view][:2]
+                    for end in (one.start, one.end)]
             for span in common_spans(views, it.one, lines):
                 low, high = sorted(views.place(other, sight, stop) for stop in span)
-                left.append(Stretch(other, is_upright, place, low, high, False))
+                stretch = Stretch(other, is_upright, place, low, high, False)
+                left += [(stretch, True)] if any(abs(end - place) <= noise for end in ends) else parted(stretch, lines[other], noise)
         if it.ends[at] is End.BACK:
             low, high = sorted((it.slant.ends[at][1 - at], it.slant.corner[1 - at]))
-            left.append(Stretch(it.one.view, at == 0, it.slant.corner[at], low, high, False))
+            left.append((Stretch(it.one.view, at == 0, it.slant.corner[at], low, high, False), True))
     return it._replace(left=tuple(left))
+
+
+def parted(stretch: Stretch, lines: Sequence[Edge], noise: float) -> Iterator[tuple[Stretch, bool]]:
+    """The pieces of a stretch, and whether all that lies there is left out: what lies dashed under a solid line is another thing's."""
+    way = 1 if stretch.is_upright else 0
+    on = [edge for edge in lines if is_level(edge) != stretch.is_upright and abs(edge.start[1 - way] - stretch.at) <= noise]
+    stops = sorted({stretch.low, stretch.high, *(stop for edge in on for stop in span_of(edge, way) if stretch.low + noise < stop < stretch.high - noise)})
+    for low, high in itertools.pairwise(stops):
+        over = {edge.hidden for edge in on if span_of(edge, way)[0] <= (low + high) / 2 <= span_of(edge, way)[1]}
+        yield stretch._replace(low=low, high=high), len(over) < 2
 
 
 def seen_behind(views: Views, one: Chamfer, main: Sequence[Squared]) -> Iterator[Squared]:
@@ -299,14 +342,34 @@ def seen_behind(views: Views, one: Chamfer, main: Sequence[Squared]) -> Iterator
 
 # ---- squared off
 
-def squared_off(edges: Sequence[Edge], chosen: Sequence[Squared], tolerance: float) -> list[Edge]:
-    """The edges with chamfers squared to the chosen corners, without what is left out, and with what these corners hide or show."""
+def squared_off(edges: Sequence[Edge], chosen: Sequence[Squared], tolerance: float) -> tuple[list[Edge], list[Move]]:
+    """The edges with chamfers squared to the chosen corners, without what is left out, and with what these corners hide or show; and which ends
+    of lines were moved."""
     gone = {edge for it in chosen for edge in it.one.edges}
-    straight = without([edge for edge in edges if edge not in gone], [(stretch, True) for it in chosen for stretch in it.left], tolerance)
-    behind = straight
+    straight = without([edge for edge in edges if edge not in gone], [left for it in chosen for left in it.left], tolerance)
+    moves: list[Move] = []
+    behind = [ended(edge, straight, chosen, tolerance, moves) for edge in straight]
     for it in chosen:
         behind = restyled(behind, it.slant, tolerance)
-    return [*behind, *(side for it in chosen for side in sides_of(it, straight, chosen, tolerance))]
+    return [*behind, *(side for it in chosen for side in sides_of(it, straight, chosen, tolerance))], moves
+
+
+def ended(edge: Edge, edges: Sequence[Edge], chosen: Sequence[Squared], tolerance: float, moves: list[Move]) -> Edge:
+    """A line whose ends upon chamfers, beyond which no line goes on, come to lie on the sides of the corners."""
+    way, ends = 0 if is_level(edge) else 1, [edge.start, edge.end]
+    for at, (end, other) in enumerate(((edge.start, edge.end), (edge.end, edge.start))):
+        it = next((it for it in chosen if is_within(it.one, end, tolerance)), None)
+        step = math.copysign(BESIDE * tolerance, end[way] - other[way])
+        beyond = (end[0] + step, end[1]) if way == 0 else (end[0], end[1] + step)
+        if it and not any(is_level(one) == is_level(edge) and covers(one, beyond, tolerance) for one in edges):
+            ends[at] = moved(it.slant, end, way == 0)
+            moves.append(Move(it, way, end[way], ends[at][way]))
+    return edge._replace(start=ends[0], end=ends[1])
+
+
+def is_within(one: Chamfer, place: Place, tolerance: float) -> bool:
+    """Whether a place lies upon a chamfer, and at none of its ends."""
+    return is_upon(one.slants[0], place, tolerance) and min(math.dist(place, end) for end in (one.start, one.end)) > 2 * BESIDE * tolerance
 
 
 def sides_of(it: Squared, straight: Sequence[Edge], others: Sequence[Squared], tolerance: float) -> Iterator[Edge]:
@@ -394,6 +457,11 @@ def changes(edge: Edge, slant: Slant, edges: Sequence[Edge], tolerance: float) -
     return bool(within and beyond) and all(within) == edge.hidden != all(beyond)
 
 
+def cuts_of(moves: Sequence[Move]) -> Iterator[str]:
+    """Which chamfers are cut by walls."""
+    yield from dict.fromkeys(f"an {it.one.one} is cut by walls, and doesn't stand free" for it in moves)
+
+
 def do_touch(one: Edge, other: Edge, noise: float) -> bool:
     return any(covers(a, end, noise) for a, b in ((one, other), (other, one)) for end in (b.start, b.end))
 
@@ -403,10 +471,10 @@ def doubts_of(its: Sequence[Squared], edges: Sequence[Edge], rounds: Sequence[Ro
     for it in its:
         for edge in edges:
             if any(it.slant.is_before(end, tolerance) for end in (edge.start, edge.end)):
-                yield f"a {edge.source} ends in the corner of an {it.one}"
+                yield f"a {edge.source} ends in the corner of the box of an {it.one}"
         for one in rounds:
-            if any(it.slant.is_before(quarter.along(step / 32), tolerance) for quarter in one.quarters for step in range(33)):
-                yield f"a {one} meets an {it.one} or its corner"
+            if comes_into(it.slant, one, tolerance):
+                yield f"a {one} comes into the corner of the box of an {it.one}"
         for other in its[its.index(it) + 1:]:
             if any(a.is_before(b.along(step / 32), tolerance) for a, b in ((it.slant, other.slant), (other.slant, it.slant)) for step in range(33)):
-                yield f"an {it.one} meets an {other.one} or its corner"
+                yield f"an {it.one} meets an {other.one}, or the corner of its box"

@@ -152,7 +152,7 @@ class Round(NamedTuple):
         return [at for low, high, _ in self.pieces for at, way in ((low, -INTO), (high, INTO)) if at % 90 and not self.is_drawn(at + way)]
 
     def __str__(self) -> str:
-        what, (x, y) = "circle" if len(self.numbers) == 4 else "round", self.centre
+        what, (x, y) = "circle" if len(self.numbers) == 4 else "round", (round(it, 6) + 0.0 for it in self.centre)
         return f"{what} of radius {self.radius:.6g} at {x:.6g}, {y:.6g} ({self.drawn.source})"
 
 
@@ -246,6 +246,12 @@ def met_told(one: Round, place: Place, rounds: Sequence[Round], tolerance: float
                 return f"it goes over into a {other}, or touches it"
             return f"a {other} cuts it: rounds are read that level and upright walls cut, and no others"
     return ""
+
+
+def is_on(one: Round, place: Place, tolerance: float) -> bool:
+    """Whether a place lies upon what is drawn of a round."""
+    x, y = (it - centre for it, centre in zip(place, one.centre))
+    return abs(math.hypot(x, y) - one.radius) <= UPON * tolerance and one.is_drawn(math.degrees(math.atan2(y, x)))
 
 
 def goes_on(quarter: Quarter, at: int, end: Place, edges: Sequence[Edge], tolerance: float) -> bool:

@@ -12,7 +12,7 @@ Each thing that is changed or left out is one line on standard error, and what c
 """
 import argparse
 import itertools
-from collections.abc import Iterator, Mapping, Sequence
+from collections.abc import Iterable, Iterator, Mapping, Sequence
 from fractions import Fraction
 from typing import Any, NamedTuple
 
@@ -347,9 +347,9 @@ def coordinates_of(view: str, group: Group) -> list[At]:
     return found
 
 
-def measured(path: str | None, placed: Placed, times: Fraction, arguments: argparse.Namespace, tell: Tell) -> Measure:
-    """How the views' lengths become whole."""
-    ats: list[At] = []
+def measured(path: str | None, placed: Placed, times: Fraction, arguments: argparse.Namespace, tell: Tell, more: Iterable[At] = ()) -> Measure:
+    """How the views' lengths become whole, and some more of the sheet."""
+    ats = list(more)
     for view, group in placed.views.items():
         its = coordinates_of(view, group)
         for axis in "xy":

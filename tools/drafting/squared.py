@@ -24,7 +24,7 @@ from .placing import Placed
 from .reading import Arc, Box, Edge, Sheet, Unread, thing_of, where
 from .rounds import OF_ONE, Move, Round, Squares, arc_box, box_of, is_straight
 from .sections import are_told
-from .straight import Measure, Run, runs_of, without_noise
+from .straight import At, Measure, Run, runs_of, without_noise
 from .tangent import Reading, Views
 from .two_exports import arcs_hidden_by, twice_hidden
 from .unread import refuse_oblique, refuse_unread
@@ -128,7 +128,7 @@ def read(path: str | None, read_sheet: Sheet, marks: Sequence[Mark], arguments: 
     refuse_unread(path, placed, crossings.with_meaning(parts.unread, parts), tolerance)
     read_sheet, edges, kept = with_unread(read_sheet, parts.unread), parts.edges, parts.arcs
     round_ones = cones_in(placed, edges, rounds.rounds_of(kept, tolerance), tolerance)
-    views = Views({view: group.box for view, group in placed.views.items()}, edges, [], tolerance, placed.mirrored)
+    views = Found(path, read_sheet, marks, edges, kept, placed, arguments, round_ones, ()).views(rounds.rounds_of(kept, tolerance))
     oblique, causes = chamfers.chamfers_of(views, round_ones.flanks)
     known = [*parts.gone, *round_ones.flanks, *(edge for one in oblique for edge in one.edges)]
     refuse_oblique(path, placed, known, lambda edge: not_taken(causes.get(edge)))
@@ -178,13 +178,14 @@ def cones_in(placed: Placed, edges: Sequence[Edge], its: Sequence[Round], tolera
 
 # ---- one reading
 
-def remapped(edges: Sequence[Edge], moves: Sequence[Move], found: Found) -> list[Edge]:
-    """In the views that see a round from its side, the lines where walls meet it, moved to where they meet its square."""
+def remapped(edges: Sequence[Edge], moves: Sequence[tuple[Place, Move | chamfers.Move]], found: Found) -> list[Edge]:
+    """In the views that see a round, or a chamfer, from its side, the lines where walls meet it, moved to where they meet its square: by a
+    place of each."""
     noise = OF_ONE * found.tolerance
     views = found.views([])
     changes: list[tuple[Box, int, float, float]] = []
-    for move in moves:
-        for view in [it for it, box in views.boxes.items() if holds(box, box_of([move.one.centre]), noise)]:
+    for place, move in moves:
+        for view in [it for it, box in views.boxes.items() if holds(box, box_of([place]), noise)]:
             axis = FRAMES[view].up if move.along else FRAMES[view].right
             ends = [views.depth(view, axis, it) for it in (move.before, move.after)]
             for other, box in views.boxes.items():
@@ -210,16 +211,17 @@ def squared(found: Found, reading: Reading, corners: Sequence[chamfers.Squared])
     left = [*found.cones.across, *(stretch for it in found.holes for stretch in it.left)]
     closed = [*lines, *(edge for it in found.holes for _, edge in it.gaps)]
     rest = tangent.without(closed, [(it, True) for it in left], found.tolerance)
-    stepped = chamfers.squared_off([it for edge in rest for it in found.cones.flanks.get(edge, (edge,))], corners, found.tolerance)
-    in_sections, in_views = apart(stepped, found)
+    stepped, turned = chamfers.squared_off([it for edge in rest for it in found.cones.flanks.get(edge, (edge,))], corners, found.tolerance)
+    in_sections, in_views = apart(remapped(stepped, [(it.one.slant.corner, it) for it in turned], found), found)
     given_edges = [*in_views, *tangent.added(views, reading)]
     inner = [one.centre for view, one in views.rounds if (view, round(one.radius, 2)) in reading.inner]
     its = [one._replace(is_inner=len(one.numbers) == 1 and not one.cuts and one.centre in inner) for _, one in views.rounds
            if not any(it.one == one for it in found.holes)]
     squares = rounds.Squaring(given_edges, its, found.tolerance, reading.is_eager).done()
     if cut := [it for it in squares.moves if it.one.cuts or reading.is_eager]:
-        squares = rounds.Squaring(remapped(given_edges, cut, found), its, found.tolerance, reading.is_eager).done()
+        squares = rounds.Squaring(remapped(given_edges, [(it.one.centre, it) for it in cut], found), its, found.tolerance, reading.is_eager).done()
     squares = squares._replace(edges=tangent.without(squares.edges, [(it, True) for it in reading.contacts], found.tolerance))
+    squares.doubts.extend(chamfers.cuts_of(turned))
     squares.doubts.extend(chamfers.doubts_of(corners, [it for it in lines if is_straight(it, OF_ONE * found.tolerance)], its, found.tolerance))
     squares.doubts.extend(f"a {it.one} {'that crosses a round may have another depth' if it.probe else 'may end where another line goes across'}"
                           for it in found.holes if it.is_open)
@@ -250,15 +252,23 @@ def unlike(found: Found, reading: Reading, corners: Sequence[chamfers.Squared], 
     return ""
 
 
-def measured(path: str | None, placed: Placed, times: Fraction, arguments: argparse.Namespace, tell: Tell) -> Measure:
+def measured(found: Found, placed: Placed, times: Fraction, corners: Sequence[chamfers.Squared], tell: Tell) -> Measure:
     """How lengths become whole; rounded where they have no end."""
     try:
-        return sheet.measured(path, placed, times, arguments, tell)
+        return sheet.measured(found.path, placed, times, found.arguments, tell, ends_of(placed, corners))
     except Refused as refusal:
-        if "doesn't fit" not in str(refusal) or arguments.sheet_decimals is not None:
+        if "doesn't fit" not in str(refusal) or found.arguments.sheet_decimals is not None:
             raise
         tell(noted.changed(f"coordinates rounded to {ROUNDED} decimals, since they have no end"))
         return Measure(times, ROUNDED, 0.5 * 10**-ROUNDED / float(times))
+
+
+def ends_of(placed: Placed, corners: Sequence[chamfers.Squared]) -> Iterator[At]:
+    """Where oblique edges end: of a wall that goes back, or straight on, the squared-off drawing has no line there."""
+    for it in corners:
+        frame = Frame(placed.views[it.one.view], 1.0, placed.mirrored)
+        for end in (it.one.start, it.one.end):
+            yield from (At(length, it.one.view, axis, at, it.one.edges[0].source) for axis, at, length in zip("xy", end, frame.place(end)))
 
 
 class Frame(NamedTuple):
@@ -371,7 +381,7 @@ def drawn(found: Found, reading: Reading, corners: Sequence[chamfers.Squared], n
     placed = sheet.checked_views(found.path, found.sheet, squares.edges, found.marks, found.arguments, tell)
     check_within(found, placed)
     times = sheet.scale_in_use(found.path, found.sheet, placed, found.arguments, tell)
-    measure = measured(found.path, placed, times, found.arguments, tell)
+    measure = measured(found, placed, times, corners, tell)
     left = list(reading.left)
     if reading.inner:
         views = found.views(squares.rounds)

@@ -73,13 +73,32 @@ class Cases(test_rounds.InAFolder):
         # 80 * 60 * 24 less a groove of 28 and 40 by 12; and a slide that fits it, 28 and 40 by 12 upon 60 * 60 * 10.
         groove = box(0, 0, 0, 80, 60, 24).cut(prism(1, [(26, 24), (54, 24), (60, 12), (20, 12)], 0, 60))
         self.one(groove, "90,720 mm³", 4)
+        # A slide whose foot, at 13.75 and 46.25, is drawn by lines alone that are left out: 60 * 60 * 10 + 32.5 and 40 by 12 upon it.
+        narrow = box(0, 0, 0, 60, 60, 10).fuse(prism(1, [(13.75, 10), (46.25, 10), (50, 22), (10, 22)], 0, 60)).removeSplitter()
+        self.one(narrow, "62,100 mm³", 4)
         slide = box(0, 0, 0, 60, 60, 10).fuse(prism(1, [(16, 10), (44, 10), (50, 22), (10, 22)], 0, 60)).removeSplitter()
         self.one(slide, "60,480 mm³", 4)
 
     def test_what_stands_behind_and_before(self) -> None:
         self.one(bracket(box(0, 18, 8, 10, 32, 24)), "43,840 mm³")
         self.one(bracket(box(50, 18, 8, 60, 32, 24)), "43,840 mm³")
-        self.assertTrue(any("ends in the corner of an oblique edge from" in it and it.endswith("other solids may be missed") for it in self.said), self.said)
+        self.assertTrue(any("ends in the corner of the box of an oblique edge from" in it and it.endswith("other solids may be missed") for it in self.said), self.said)
+
+    def test_walls_that_end_at_a_slope(self) -> None:
+        # A jaw of 120 * 16 * 45 with a step of 3 by 5 along it, and a groove of 8 by 4 down through that: half of 4 * 8 * 40 and 2 * 1 * 5.
+        jaw = box(0, 0, 0, 120, 16, 45).cut(box(0, 0, 40, 120, 3, 45)).cut(prism(2, [(56, 0), (64, 0), (60, 4)], 0, 45))
+        self.one(jaw, "83,955.00 mm³ by FreeCAD", 3)
+        self.assertTrue(any("is cut by walls, and doesn't stand free: other solids may be missed" in it for it in self.said), self.said)
+        # A ramp, in which a slot ends.
+        ramp = prism(1, [(0, 0), (60, 0), (60, 10), (30, 25), (0, 25)], 0, 40).cut(box(20, 10, 18, 60, 30, 25))
+        self.one(ramp, "48,620.00 mm³ by FreeCAD", 1)
+
+    def test_a_hole_beside_a_groove(self) -> None:
+        # A block of 100 * 60 * 60 with a groove of 40 by 20, a slot of 4 from 34 on under it, a hole beside it, and side slots of 10 by 12, as deep
+        # as the groove's edges lie: 400 + 28 and 2 * 120 along 100, and 169 * pi / 16 along 16.
+        block = box(0, 0, 0, 100, 60, 60).cut(prism(0, [(10, 60), (50, 60), (30, 40)], 0, 100)).cut(box(0, 28, 34, 100, 32, 50))
+        block = block.cut(box(0, 0, 20, 100, 10, 32)).cut(box(0, 50, 20, 100, 60, 32)).cut(cylinder(0, (15, 45), 0, 16, 3.25))
+        self.one(block, "293,200 - 169 pi = 292,669.07 mm³", 4)
 
     def test_gussets_whose_slopes_cross(self) -> None:
         self.one(bracket(prism(0, [(18, 8), (32, 8), (32, 44)], 4, 10)), "43,112 mm³")
@@ -129,6 +148,9 @@ class Refusals(test_rounds.InAFolder):
 
         self.refused(box(0, 0, 0, 60, 40, 30).cut(prism(1, [(20, 30), (40, 30), (45, 20), (15, 20)], 0, 40)),
                      "it is oblique, .*: where it ends no level or upright line goes on away from it", floorless)
+
+        arm = prism(2, [(0, -12), (80, -8), (80, 8), (0, 12)], 4, 12).fuse(cylinder(2, (0, 0), 0, 16, 20)).fuse(cylinder(2, (80, 0), 0, 16, 12))
+        self.refused(arm.removeSplitter(), "in TOP a LINE .* it is oblique, .*: it ends upon a circle of radius (12|20) .*, and not at a corner")
 
         def stray(space: Any, places: dict[str, tuple[float, float]]) -> None:
             x, y = places["TOP"]
