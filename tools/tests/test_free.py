@@ -143,10 +143,13 @@ class Causes(test_rounds.InAFolder):
                                                         "line goes from 112, 175 to 128, 175: it may touch a wall there")
 
     def test_where_no_curve_is_suspected_that_is_said(self) -> None:
-        parts.sheet_of(box(0, 0, 0, 60, 40, 10).fuse(box(0, 30, 10, 60, 40, 25)).cut(cylinder(2, (20, 15), 0, 10, 4)), self.file, without_a_step)
-        ended = draft("solve", self.file)
-        self.assertIn("No solid is found", ended.out)
-        self.assertIn("The cause isn't known, since the other views confirm each curve: ", ended.out)
+        wall = box(0, 30, 10, 60, 40, 25)
+        # The corners of a rounded wall are as wide as the base in TOP, where that is the border.
+        for upright in (wall, parts.filleted(wall, 6, 1, lambda it: it.z > 24)):
+            parts.sheet_of(box(0, 0, 0, 60, 40, 10).fuse(upright).cut(cylinder(2, (20, 15), 0, 10, 4)), self.file, without_a_step)
+            ended = draft("solve", self.file)
+            self.assertIn("No solid is found", ended.out)
+            self.assertIn("The cause isn't known, since the other views confirm each curve: ", ended.out)
 
     def test_a_suspect_is_written_and_read(self) -> None:
         given = given_in(comments(Given([], {}, {}, [], [], [], suspects=("a", "b c"))).splitlines() + ["999", "draft hole TOP 40 25 6 0 8"])
