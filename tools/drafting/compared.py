@@ -9,7 +9,7 @@ from typing import NamedTuple
 from . import bends
 from .bends import Bend
 from .cad import FreeCAD, Part, TechDraw
-from .cones import is_seam
+from .cones import is_seam, is_side_seam
 from .curves import angle_of
 from .drawing import Place
 from .evened import TINY
@@ -267,7 +267,7 @@ def unexplained(given: Given, found: Sequence[Drawn], unit: int) -> Iterator[str
     """Stretches that were left out though no round's axis runs along them for their whole length, and that are no seam of a cone."""
     near = min(NEAR, max(given.extent(axis) for axis in range(3)) * NEAR / SIZE)
     for stretch in given.smooth:
-        if any(is_seam(stretch, cone, near) for cone in given.cones):
+        if is_of_cones(stretch, given, near):
             continue
         frame = FRAMES[stretch.view]
         axis, along = (frame.right, frame.up) if stretch.is_upright else (frame.up, frame.right)
@@ -310,7 +310,7 @@ def smooth_doubts(shape: "Part.Shape", given: Given) -> tuple[int, int]:
         rows, every = rows_of(smooth, []), rows_of([*smooth, *sharp], [])
         left = [it for it in given.smooth if it.view == view]
         told = joined_near(rows_of([*given.lines.get(view, []), *(it.edge() for it in left)], []), rows)
-        other += sum(differs(it, every) for it in left if not any(is_seam(it, cone, NEAR) for cone in given.cones))
+        other += sum(differs(it, every) for it in left if not is_of_cones(it, given, NEAR))
         for key, row in rows.items():
             lacking += sum(style_at(row, (low + high) / 2) == "solid" and style_at(told.get(key, []), (low + high) / 2) != "solid"
                            for low, high in stretches((row, told.get(key, []))) if not is_of_cone(view, key, low, high, given))
@@ -319,7 +319,12 @@ def smooth_doubts(shape: "Part.Shape", given: Given) -> tuple[int, int]:
 
 def is_of_cone(view: str, key: tuple[float, ...], low: float, high: float, given: Given) -> bool:
     """Whether a stretch of a line is a cone's seam, whose direction nothing tells."""
-    return len(key) == 2 and any(is_seam(Stretch(view, key[0] == 1, key[1], low, high, False), cone, NEAR) for cone in given.cones)
+    return len(key) == 2 and is_of_cones(Stretch(view, key[0] == 1, key[1], low, high, False), given, NEAR)
+
+
+def is_of_cones(stretch: Stretch, given: Given, near: float) -> bool:
+    """Whether a stretch may be the seam of a cone."""
+    return any(is_seam(stretch, cone, near) or is_side_seam(stretch, cone, given, near) for cone in given.cones)
 
 
 def differs(stretch: Stretch, rows: Mapping[tuple[float, ...], list[Span]]) -> bool:

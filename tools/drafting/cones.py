@@ -187,24 +187,46 @@ def across_ends(panels: Mapping[str, Panel], cones: Sequence[Cone], tolerance: f
 
 
 def seams_of(panels: Mapping[str, Panel], cones: Sequence[Cone], tolerance: float) -> Iterator[Stretch]:
-    """Lines along cones, from one end to the other, in the views along their axes, which TechDraw draws as seams."""
+    """Lines along cones, from one end to the other, which TechDraw draws as seams: in the views along their axes beside the centre, and upon
+    the axis in those from their sides."""
     noise = OF_ONE * tolerance
     for cone in cones:
+        owners = frozenset({(cone.view, round(cone.radius, 2))})
         for is_upright, sign in itertools.product((False, True), (1, -1)):
             across, along = cone.centre if is_upright else cone.centre[::-1]
             low, high = sorted(along + sign * radius for radius in (cone.radius, cone.end_radius))
-            ends = [(across, it) if is_upright else (it, across) for it in (low, high)]
-            over = [edge.hidden for edge in panels[cone.view].edges if all(covers(edge, end, noise) for end in ends) and is_straight(edge, noise)]
-            if over:
-                yield Stretch(cone.view, is_upright, across, low, high, all(over), frozenset({(cone.view, round(cone.radius, 2))}))
+            yield from seen_in(panels, Stretch(cone.view, is_upright, across, low, high, False, owners), noise)
+        for side in sides_of(panels, cone.view, circle_of(panels, cone), noise):
+            low, high = sorted(place_along(side.view, side.panel.box, FRAMES[cone.view].sight, it, True) for it in (cone.neck, cone.end))
+            yield from seen_in(panels, Stretch(side.view, side.is_upright, side.at, low, high, False, owners), noise)
+
+
+def seen_in(panels: Mapping[str, Panel], stretch: Stretch, noise: float) -> Iterator[Stretch]:
+    """A stretch in the style in which its view draws it, where it does."""
+    ends = [(stretch.at, it) if stretch.is_upright else (it, stretch.at) for it in (stretch.low, stretch.high)]
+    over = [edge.hidden for edge in panels[stretch.view].edges if all(covers(edge, end, noise) for end in ends) and is_straight(edge, noise)]
+    if over:
+        yield stretch._replace(hidden=all(over))
 
 
 def is_seam(stretch: Stretch, cone: Cone, near: float) -> bool:
-    """Whether a stretch may be the seam of a cone."""
+    """Whether a stretch may be the seam of a cone in the view along its axis."""
     across, along = cone.centre if stretch.is_upright else cone.centre[::-1]
     ends = sorted(abs(it - along) for it in (stretch.low, stretch.high))
     return stretch.view == cone.view and abs(stretch.at - across) < near and all(
         abs(a - b) < near for a, b in zip(ends, sorted((cone.radius, cone.end_radius))))
+
+
+def is_side_seam(stretch: Stretch, cone: Cone, given: Given, near: float) -> bool:
+    """Whether a stretch may be the seam of a cone in a view from its side: it lies upon the axis, from one end to the other."""
+    frame, own = FRAMES[stretch.view], FRAMES[cone.view]
+    axis, along = (frame.right, frame.up) if stretch.is_upright else (frame.up, frame.right)
+    if own.sight != along or axis not in (own.right, own.up):
+        return False
+    (is_back, at_back) = (frame.right_back, frame.up_back) if stretch.is_upright else (frame.up_back, frame.right_back)
+    at = given.extent(axis) - stretch.at if is_back else stretch.at
+    ends = sorted(given.extent(along) - it if at_back else it for it in (stretch.low, stretch.high))
+    return abs(at - cone.centre[0 if axis == own.right else 1]) < near and all(abs(a - b) < near for a, b in zip(ends, sorted((cone.neck, cone.end))))
 
 
 def circle_of(panels: Mapping[str, Panel], cone: Cone) -> Round:

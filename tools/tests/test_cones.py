@@ -71,6 +71,14 @@ class Cones(test_rounds.InAFolder):
         self.assertEqual([it.doubt for it in asked.kept], [""])
         self.assertTrue(any("in TOP the level line at 15 from" in it and it.endswith("taken as a tangent edge") for it in self.said), self.said)
 
+    def test_seams_of_cones_from_their_sides(self) -> None:
+        # A tapered shaft with a chamfered end: 225 * 40, 30 * (225 + 150 + 100) / 3, 36 * 18 and 2 * (36 + 24 + 16) / 3.
+        taper = cylinder(0, (20, 20), 0, 40, 15).fuse(cone(0, (20, 20), 40, 70, 15, 10)).fuse(cylinder(0, (20, 20), 70, 88, 6))
+        shaft = taper.fuse(cone(0, (20, 20), 88, 90, 6, 4)).removeSplitter()
+        parts.sheet_of(shaft, self.file, groups=(0, 1, 2, 3, 5, 8))
+        self.one(shaft, "about 14448.6667 pi = 45,391.83 mm³")
+        self.assertTrue(any("line at 15 from 40 to 70, taken as a tangent edge" in it for it in self.said), self.said)
+
     def test_the_chamfered_ends_of_a_shaft(self) -> None:
         shape = cylinder(0, (20, 20), 2, 20, 10).fuse(cylinder(0, (20, 20), 20, 30, 15)).fuse(cone(0, (20, 20), 2, 0, 10, 8)).removeSplitter()
         parts.sheet_of(shape, self.file)
