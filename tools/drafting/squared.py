@@ -220,6 +220,7 @@ def squared(found: Found, reading: Reading, corners: Sequence[chamfers.Squared])
     squares = rounds.Squaring(given_edges, its, found.tolerance, reading.is_eager).done()
     if cut := [it for it in squares.moves if it.one.cuts or reading.is_eager]:
         squares = rounds.Squaring(remapped(given_edges, [(it.one.centre, it) for it in cut], found), its, found.tolerance, reading.is_eager).done()
+    check_squares(views, squares)
     squares = squares._replace(edges=tangent.without(squares.edges, [(it, True) for it in reading.contacts], found.tolerance))
     squares.doubts.extend(chamfers.cuts_of(turned))
     squares.doubts.extend(chamfers.doubts_of(corners, [it for it in lines if is_straight(it, OF_ONE * found.tolerance)], its, found.tolerance))
@@ -228,6 +229,15 @@ def squared(found: Found, reading: Reading, corners: Sequence[chamfers.Squared])
     squares.doubts.extend([] if found.has_all_corners else [f"its oblique edges may be squared off in more than {chamfers.MOST} ways"])
     of_sections = rounds.Squaring(in_sections, rounds.rounds_of(found.cut, found.tolerance), found.tolerance, False).done()
     return lines, squares._replace(edges=[*squares.edges, *of_sections.edges])
+
+
+def check_squares(views: Views, squares: Squares) -> None:
+    """Refuses a round that is cut within its quarters, and whose square reaches farther than its view."""
+    noise = OF_ONE * views.tolerance
+    for view, one in ((view, one) for view, one in views.rounds if one.cuts):
+        own = [edge for edge in squares.edges if edge.source == one.drawn.source]
+        if not all(holds(views.boxes[view], box_of([edge.start, edge.end]), noise) for edge in own):
+            raise Refused(f"in {view} a {one} is cut within its quarters, and its square reaches beyond the view: such rounds aren't squared off")
 
 
 def apart(edges: Sequence[Edge], found: Found) -> tuple[list[Edge], list[Edge]]:

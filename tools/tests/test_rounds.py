@@ -230,6 +230,10 @@ class Refusals(InAFolder):
         self.refused(box(0, 0, 0, 50, 40, 30).cut(cylinder(2, (25, 30), 0, 30, 4)).cut(slanted),
                      r"a SPLINE .* is neither a level or upright line nor an arc, from \S+, \S+ to \S+, \S+: where holes cross")
 
+    def test_a_square_that_reaches_beyond_the_part(self) -> None:
+        link = box(0, 0, 0, 100, 30, 10).cut(cylinder(2, (50, 90), 0, 10, 70)).cut(cylinder(2, (12, 15), 0, 10, 6))
+        self.refused(link, r"in TOP a round of radius 70 .* is cut within its quarters, and its square reaches beyond the view")
+
     def test_too_many_circles(self) -> None:
         def more(space: Any, places: dict[str, tuple[float, float]]) -> None:
             for number in range(3_001):
