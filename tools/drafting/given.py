@@ -82,7 +82,7 @@ class Chamfer(NamedTuple):
 
 class Stretch(NamedTuple):
     """A stretch of a line that may be a tangent edge or a seam of a round: in a view, upright or level, at, from, to. The owners are the
-    rounds that it may be of, by their views and radii."""
+    rounds that it may be of, by their views and radii; and of how many rounds that are no whole circles it likely is one."""
 
     view: str
     is_upright: bool
@@ -91,6 +91,7 @@ class Stretch(NamedTuple):
     high: float
     hidden: bool
     owners: frozenset[tuple[str, float]] = frozenset()
+    likely: int = 0
 
     def edge(self) -> Edge:
         ends = ((self.at, self.low), (self.at, self.high)) if self.is_upright else ((self.low, self.at), (self.high, self.at))

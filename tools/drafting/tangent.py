@@ -114,17 +114,23 @@ def sides_of(views: Views, view: str, one: Round, lines: Mapping[str, list[Edge]
 # ---- which lines may be tangent edges
 
 def candidates(views: Views) -> list[Stretch]:
-    """The stretches that may be tangent edges or seams, cut where other lines meet them."""
-    lines = {view: within(views, view) for view in views.boxes}
+    """The stretches that may be tangent edges or seams, cut where other lines meet them. None is likely one upon which another round has an
+    outline."""
+    lines, noise = {view: within(views, view) for view in views.boxes}, OF_ONE * views.tolerance
     found: dict[tuple[str, bool, float, float], Stretch] = {}
     owners: dict[tuple[str, bool, float, float], set[Owner]] = defaultdict(set)
+    makers: dict[tuple[str, bool, float, float], set[Owner]] = defaultdict(set)
+    outlines: dict[tuple[str, bool], list[float]] = defaultdict(list)
     for view, one in views.rounds:
         for side in sides_of(views, view, one, lines):
+            outlines[side.view, side.is_upright] += [side.at - one.radius, side.at + one.radius]
             for stretch in stretches_of(side, views):
                 key = stretch.view, stretch.is_upright, round(stretch.at, 2), round(stretch.low, 2)
                 owners[key].add((view, round(one.radius, 2)))
+                makers[key].update([(str(one), one.radius)] if len(one.numbers) < 4 else [])
                 found.setdefault(key, stretch)
-    return [it._replace(owners=frozenset(owners[key])) for key, it in found.items()]
+    return [it._replace(owners=frozenset(owners[key]), likely=0 if any(
+        abs(place - it.at) <= noise for place in outlines[it.view, it.is_upright]) else len(makers[key])) for key, it in found.items()]
 
 
 def stretches_of(side: Side, views: Views) -> Iterator[Stretch]:
@@ -224,6 +230,7 @@ def lefts(found: Sequence[Stretch]) -> Iterator[Left]:
     yield ()
     for its, both in ((found, True), (solid, True), (found, False)):
         yield tuple((it, both) for it in its)
+    yield from likely_lefts(found)
     for some in subsets(sorted({owner for it in found for owner in it.owners}), 4):
         for its, both in ((found, True), (solid, False)):
             yield tuple((it, both) for it in its if it.owners & set(some))
@@ -236,6 +243,19 @@ def lefts(found: Sequence[Stretch]) -> Iterator[Left]:
     for its, both in ((solid, False), (found, True)):
         for few in subsets(its, 6):
             yield tuple((it, both) for it in few)
+
+
+def likely_lefts(found: Sequence[Stretch]) -> Iterator[Left]:
+    """All solid ones, and dashed ones that are likely tangent edges; what lies dashed under them goes too where that is likely one of another
+    round. Then one line otherwise, or one stretch of a line that has several: without what lies under it, or with that, or not at all."""
+    likely = tuple((it, it.likely > 1) for it in found if not it.hidden or it.likely)
+    yield likely
+    lines: dict[tuple[str, bool, float], list[Stretch]] = defaultdict(list)
+    for it, _ in likely:
+        lines[it.view, it.is_upright, round(it.at, 2)].append(it)
+    for some in (*lines.values(), *([it] for its in lines.values() if len(its) > 1 for it in its)):
+        yield tuple((it, both != (it in some)) for it, both in likely)
+        yield tuple((it, both) for it, both in likely if it not in some)
 
 
 def each_once(its: Iterable[Left], most: int) -> Iterator[Left]:

@@ -360,6 +360,13 @@ class TangentEdges(InAFolder):
         self.assertIn("has these views: the search was whole.", told[0])
         self.assertRegex("\n".join(told), r"of (\d+) readings \1 were tried\.\nNo other solid is kept in any of them")
 
+    def test_what_lies_dashed_under_them_is_of_rounds_or_of_others(self) -> None:
+        # Two rounded corners in line, whose edges lie one under the other, a wall with two more, and a hole that ends where the first ones begin.
+        base = filleted(box(0, 0, 0, 77, 54, 24), 8, 2, lambda point: point.y < 1)
+        shape = base.fuse(filleted(box(0, 45, 24, 77, 54, 63), 8, 1, lambda point: point.z > 62)).cut(cylinder(1, (35, 17.5), 0, 8, 3))
+        parts.sheet_of(shape.removeSplitter(), self.file, groups=(0, 1, 3, 5, 6, 8))
+        self.exact(shape)
+
     def test_time_is_limited(self) -> None:
         shape = filleted(box(0, 0, 0, 40, 30, 8), 6, 2, lambda point: point.x > 39).cut(cylinder(2, (12, 15), 0, 8, 4))
         parts.sheet_of(shape, self.file, groups=(0, 1, 3, 5, 8))
