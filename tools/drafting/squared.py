@@ -24,6 +24,7 @@ from .placing import Placed
 from .reading import Arc, Box, Edge, Sheet, Unread, thing_of, where
 from .rounds import OF_ONE, Move, Round, Squares, arc_box, box_of, is_straight
 from .sections import are_told
+from .squares_told import tell_cones, tell_squares
 from .straight import At, Measure, Run, runs_of, without_noise
 from .tangent import Reading, Views
 from .two_exports import arcs_hidden_by, twice_hidden
@@ -367,17 +368,6 @@ def check_within(found: Found, placed: Placed) -> None:
                           "cones within them")
 
 
-def tell_cones(found: Found, tell: Tell) -> None:
-    for view in VIEWS:
-        points = sum(it.end_radius == 0 for it in found.cones.its if it.view == view)
-        steps = sum(it.end_radius > 0 for it in found.cones.its if it.view == view)
-        if points:
-            tell(noted.left_out(f"of {view} {many(points, 'place')} where a hole may end in a cone to a point, which is put back", points, view))
-        if steps:
-            tell(noted.changed(f"of {view} {many(steps, 'cone')} between two circles squared off to {'a step' if steps == 1 else 'steps'}",
-                               steps, view))
-
-
 def doubts_of_cones(found: Found) -> list[str]:
     """Where the edges of cones leave more choices than are tried."""
     count = len(cones.covering(found.cones.its, found.cones.its))
@@ -400,7 +390,7 @@ def drawn(found: Found, reading: Reading, corners: Sequence[chamfers.Squared], n
     told = given_by(found, placed, lines, squares, corners, tuple(left), float(measure.times))._replace(reading=number, suspects=suspects_of(found))
     told = told._replace(moved=moved_by(told, measure, found.tolerance))
     tell_squares(told, tell)
-    tell_cones(found, tell)
+    tell_cones(found.cones.its, tell)
     layers = layers_of(found, reading, corners, squares, placed, times, measure, tell)
     for stretch in told.smooth:
         way = "upright" if stretch.is_upright else "level"
@@ -440,24 +430,6 @@ def suspects_of(found: Found) -> tuple[str, ...]:
     its = [(view, one) for view, one in views.rounds
            if one not in taken and not is_of_cone(view, one, found.placed, found.cones.its, found.tolerance)]
     return tuple(it.words for it in unconfirmed.suspects(views._replace(rounds=its)))
-
-
-def tell_squares(told: Given, tell: Tell) -> None:
-    for words, its in (("whose squares would meet others", [it for it in told.holes if not it.probe]), ("that cross other rounds", [it for it in told.holes if it.probe])):
-        for view, count in Counter(view for view, *_ in {(it.view, it.centre, it.radius) for it in its}).items():
-            tell(noted.left_out(f"of {view} {many(count, 'hole or boss', 'holes or bosses')} {words}, which are put back", count, view))
-    for view in dict.fromkeys(it.view for it in told.squared):
-        circles = [it for it in told.rounds if it.view == view]
-        if circles:
-            tell(noted.changed(f"in {view} {many(len(circles), 'circle or round', 'circles or rounds')} squared off, of {radii_told(circles)}",
-                               len(circles), view))
-        if count := sum(it.view == view for it in told.chamfers):
-            tell(noted.changed(f"in {view} {many(count, 'oblique edge')} squared off to {'a corner' if count == 1 else 'corners'}", count, view))
-
-
-def radii_told(circles: Sequence[given.Squared]) -> str:
-    radii = sorted({f"{it.radius:.6g}" for it in circles}, key=float)
-    return f"radius {radii[0]}" if len(radii) == 1 else f"radii {', '.join(radii)}"
 
 
 # ---- all readings
