@@ -11,16 +11,18 @@ from .rounds import OF_ONE, is_level, is_straight
 
 
 def arcs_hidden_by(whole: Sequence[Arc], visible: Sequence[Arc], tolerance: float) -> Iterator[Arc]:
-    """The arcs of a sheet, cut where arcs of its export without hidden lines end, and hidden where that one lacks them."""
+    """The arcs of a sheet, hidden where its export without hidden lines lacks them, and cut where it begins to."""
     for arc in whole:
         beside = [it for it in visible if rounds.are_of_one(it, arc, tolerance)]
         noise = math.degrees(1e-3 / arc.radius)
         offs = [(at - arc.start) % 360 for it in beside if it.sweep < 360 - noise for at in (it.start, it.start + it.sweep)]
         stops = sorted({0.0, arc.sweep, *(off for off in offs if noise < off < arc.sweep - noise)})
-        for low, high in itertools.pairwise(stops):
-            if high - low > noise:
-                seen = any((arc.start + (low + high) / 2 - it.start) % 360 <= it.sweep for it in beside)
-                yield arc._replace(hidden=not seen, start=(arc.start + low) % 360, sweep=high - low)
+        spans = [(low, high) for low, high in itertools.pairwise(stops) if high - low > noise]
+        seen = [any((arc.start + (low + high) / 2 - it.start) % 360 <= it.sweep for it in beside) for low, high in spans]
+        for is_seen, its in itertools.groupby(zip(seen, spans), key=lambda it: it[0]):
+            of_one = [span for _, span in its]
+            low, high = of_one[0][0], of_one[-1][1]
+            yield arc._replace(hidden=not is_seen, start=(arc.start + low) % 360, sweep=high - low)
 
 
 def curves_hidden_by(whole: Sequence[Unread], visible: Sequence[Unread]) -> Iterator[Unread]:
