@@ -389,7 +389,9 @@ class Limits(unittest.TestCase):
             self.assertEqual((ended.status, ended.out), (1, ""), name)
 
     def test_the_server_ends_with_all_that_it_began(self) -> None:
-        served = Served()
+        room = tempfile.TemporaryDirectory()
+        self.addCleanup(room.cleanup)
+        served = Served("--program", slowed(pathlib.Path(room.name)))
         job = served.job(file_of(voids(4)).encode(), [["solids", "65536"]])
         next(event for event in served.events(job) if event["kind"] == "solids")
         served.ready()
