@@ -1,4 +1,4 @@
 """`python3 -m drafting` is `draft`, wherever this package is found."""
-from .begin import main
+from .cli.begin import main
 
 main()

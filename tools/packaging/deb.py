@@ -8,8 +8,8 @@ import shutil
 import subprocess
 import tempfile
 
-from drafting.messages import Refused
-from drafting.program import TOP
+from drafting.core.messages import Refused
+from drafting.recon.process import TOP
 
 from . import pages, proved
 

@@ -6,9 +6,9 @@ import re
 import subprocess
 
 from build_manpages.manpage import Manpage
-from drafting import command
-from drafting.messages import Refused
-from drafting.program import TOP
+from drafting.cli import commands as command
+from drafting.core.messages import Refused
+from drafting.recon.process import TOP
 
 FORMAT = TOP / "docs" / "FORMAT.md"
 # The sections of FORMAT that the manual has, by their first words, and its names for them.

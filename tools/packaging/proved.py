@@ -7,8 +7,8 @@ import time
 from typing import NamedTuple
 
 from drafting import __version__
-from drafting.messages import Refused, say
-from drafting.program import BUILT, TOP, is_program
+from drafting.core.messages import Refused, say
+from drafting.recon.process import BUILT, TOP, is_program
 
 PASSED = re.compile(r"[1-9]\d* passed, 0 failed")
 # Where the clauses of `run` stand, the call that the program makes.

@@ -7,10 +7,16 @@ from collections.abc import Iterator, Sequence
 from fractions import Fraction
 from typing import TYPE_CHECKING, Any, overload
 
-from drafting import asking, blocks, clean, cells, chosen, program, records, settle as settling, step, stl, why as looking
-from drafting.drawing import written
-from drafting.messages import write_result
-from drafting.noted import Note
+from drafting.cli import clean, chosen
+from drafting.core.messages import write_result
+from drafting.core.notes import Note
+from drafting.dxf.drawing import written
+from drafting.explain import settle as settling, why as looking
+from drafting.export import step, stl
+from drafting.projection import cells
+from drafting.recon import blocks, process
+from drafting.report import record as records
+from drafting.solve import pipeline
 
 from .errors import DrawingFault, NotThere, OptionError, raised_as
 from .told import Settling, Why, groups_of, line_of, suggestion_of
@@ -114,7 +120,7 @@ class Solid:
     def write_step(self, path: str | pathlib.Path) -> None:
         """Saves it by FreeCAD as STEP, or as BREP where the path ends in .brep, in millimetres; in the drawing's unit where it tells none."""
         with raised_as(NotThere):
-            from drafting.cad import is_shape_file, save
+            from drafting.cad.freecad import is_shape_file, save
             if not is_shape_file(str(path)):
                 raise OptionError(f"{path} ends neither in .step nor in .brep")
             save(self.to_shape(), str(path), self._answer.unit or "")
@@ -123,7 +129,7 @@ class Solid:
 class Answer:
     """What recon says of a drawing: its solids, in recon's order, each once."""
 
-    def __init__(self, asked: asking.Asked, arguments: argparse.Namespace, notes: Sequence[Note], name: str | None) -> None:
+    def __init__(self, asked: pipeline.Asked, arguments: argparse.Namespace, notes: Sequence[Note], name: str | None) -> None:
         self._asked, self._arguments = asked, arguments
         self.notes: list[Note] = list(notes)
         """What was found, changed, left out and drawn, and of what is warned: `kind`, `what`, `count`, `view`, `layer`, `entity`, and as text a sentence."""
@@ -184,11 +190,11 @@ class Answer:
         asked = self._asked
         if asked.rounds or not 1 <= number <= len(self):
             raise NotThere("a sheet with rounds isn't drawn anew" if asked.rounds else f"there is no solid {number} of {len(self)}")
-        words = ["redraw", number, *asking.views_words(asked.lines), *asking.sections_words(("redraw",), self._arguments),
-                 *asking.decimals_words(("redraw",), asked.decimals), *asking.words_of(self._arguments)]
+        words = ["redraw", number, *pipeline.views_words(asked.lines), *pipeline.sections_words(("redraw",), self._arguments),
+                 *pipeline.decimals_words(("redraw",), asked.decimals), *pipeline.words_of(self._arguments)]
         with raised_as(NotThere):
-            run = program.run(program.find(self._arguments.program), words, asked.data, self._arguments.seconds)
-            if run.status != program.WHOLE:
+            run = process.run(process.find(self._arguments.program), words, asked.data, self._arguments.seconds)
+            if run.status != process.WHOLE:
                 raise NotThere(f"recon redraws a solid of a whole list alone: {run.text.partition(chr(10))[0]}")
         strokes = clean.with_further(asked._replace(run=run), self._arguments.sections)
         return ezdxf.read(io.StringIO(written(strokes, asked.decimals, asked.origin)))
@@ -200,7 +206,7 @@ class Answer:
             is_none = looking.known_head(self._asked).startswith("whole 0 ")
             if len(self) or not is_none:
                 return Why(() if len(self) else tuple(looking.rounds_told(self._asked)), ())
-            path = program.find(self._arguments.program)
+            path = process.find(self._arguments.program)
             rows, found = looking.told_of(self._asked, path, looking.Limits(runs, search, processes), lambda suggestion: None,
                                            self._arguments.sections)
         return Why(tuple(rows), tuple(map(suggestion_of, found)))

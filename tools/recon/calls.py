@@ -5,9 +5,10 @@ import pathlib
 import tempfile
 from typing import Any, NoReturn
 
-from drafting import asking, files
-from drafting.messages import Usage
-from drafting.noted import Note
+from drafting.core.messages import Usage
+from drafting.core.notes import Note
+from drafting.sheet import view_files
+from drafting.solve import pipeline
 
 from .answer import Answer
 from .errors import SearchCut, SheetRefused, raised_as
@@ -26,8 +27,8 @@ class Options(argparse.ArgumentParser):
 def arguments_of(options: dict[str, Any]) -> argparse.Namespace:
     """Keywords as the options that they name: `nodes=1000`, `as_is=True`, `hidden="color=1"` or a list of such."""
     parser = Options(prog="recon", add_help=False, allow_abbrev=False)
-    asking.add_arguments(parser)
-    files.add_options(parser)
+    pipeline.add_arguments(parser)
+    view_files.add_options(parser)
     words: list[str] = []
     for name, value in options.items():
         option = f"--{name.replace('_', '-')}"
@@ -64,7 +65,7 @@ def answered(path: Path | None, name: str | None, strict: bool, options: dict[st
         arguments = arguments_of(options)
         arguments.drawing = None if path is None else os.fspath(path)
         notes: list[Note] = []
-        asked = asking.ask(arguments.drawing, arguments, notes.append)
+        asked = pipeline.ask(arguments.drawing, arguments, notes.append)
     answer = Answer(asked, arguments, notes, name)
     if strict and not answer.is_whole:
         raise SearchCut(f"the list isn't whole: {answer.text.partition(chr(10))[0]}", answer)

@@ -3,8 +3,8 @@ import contextlib
 from collections.abc import Iterator
 from typing import TYPE_CHECKING, Any
 
-from drafting.messages import Refused, Usage
-from drafting.program import Failed, NoProgram
+from drafting.core.messages import Refused, Usage
+from drafting.recon.process import Failed, NoProgram
 
 if TYPE_CHECKING:
     from .answer import Answer

@@ -4,9 +4,9 @@ from collections.abc import Iterator
 from dataclasses import dataclass
 from fractions import Fraction
 
-from drafting import means as telling, why
-from drafting.added import Added
-from drafting.panels import STYLES, Row
+from drafting.explain import distinguishing as telling, why
+from drafting.explain.added_views import Added
+from drafting.projection.draw import STYLES, Row
 
 Place = tuple[Fraction, Fraction]
 

@@ -11,8 +11,8 @@ import time
 from collections.abc import Iterator
 from typing import Any
 
-from drafting.drawing import Place
-from drafting.messages import Refused
+from drafting.core.messages import Refused
+from drafting.dxf.drawing import Place
 
 # How long the browser may take over one answer, in seconds.
 PATIENCE = 600

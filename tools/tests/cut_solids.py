@@ -6,7 +6,7 @@ keep what lies from there on, TOP, SIDE and REAR what lies before it.
 import itertools
 from collections.abc import Iterable, Iterator
 
-from drafting.panels import BLANK, DASHED, FRAMES, SOLID, Cell
+from drafting.projection.draw import BLANK, DASHED, FRAMES, SOLID, Cell
 
 # A unit segment of a view: whether it is upright, and where it begins.
 Segment = tuple[bool, int, int]

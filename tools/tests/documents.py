@@ -5,8 +5,8 @@ import pathlib
 from collections.abc import Sequence
 from typing import Any
 
-from drafting.cad import FreeCAD, Part
-from drafting.shapes import part_of
+from drafting.cad.freecad import FreeCAD, Part
+from drafting.cad.project import part_of
 
 from .parts import Box
 

@@ -1,7 +1,7 @@
 """Completeness logs by the plain definitions, for the tests of check_log.py: a writer of them, and what is wrong with one.
 
 What two columns can draw is found from the edges by four cells and what hides them, step by step away from the viewer. The grid and its
-faces are those of drafting/wire.py, and its blocks what chains that pass no face reach.
+faces are those of drafting/projection/wireframe.py, and its blocks what chains that pass no face reach.
 """
 import functools
 import itertools
@@ -9,9 +9,9 @@ import random
 from collections.abc import Iterator
 from typing import NamedTuple
 
-from drafting.drawing import VIEWS, lines_within, views_of
-from drafting.panels import BLANK, DASHED, FRAMES, SOLID, Grid, axis_of, grid_of, sheet_of
-from drafting.wire import Box, places_of, pseudo_edges, thinned, virtual_faces
+from drafting.dxf.drawing import VIEWS, lines_within, views_of
+from drafting.projection.draw import BLANK, DASHED, FRAMES, SOLID, Grid, axis_of, grid_of, sheet_of
+from drafting.projection.wireframe import Box, places_of, pseudo_edges, thinned, virtual_faces
 
 # What is known of a cell: it is empty, full, or still open.
 Cell = int | None

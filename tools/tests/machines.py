@@ -13,7 +13,7 @@ import time
 import unittest
 from collections.abc import Sequence
 
-from drafting.messages import Refused
+from drafting.core.messages import Refused
 
 from .support import Decorated
 

@@ -3,8 +3,8 @@ import itertools
 import random
 from collections.abc import Iterable, Iterator
 
-from drafting.drawing import VIEWS, written
-from drafting.panels import DASHED, SOLID, Cell, Grid, Panels, Row, panels_of, runs_of
+from drafting.dxf.drawing import VIEWS, written
+from drafting.projection.draw import DASHED, SOLID, Cell, Grid, Panels, Row, panels_of, runs_of
 
 Run = tuple[Row, int, int, int]
 Canon = frozenset[tuple[str, bool, int, int, int, int]]

@@ -8,9 +8,9 @@ from typing import Any
 
 import ezdxf
 
-from drafting.bodies import read_back
-from drafting.cad import FreeCAD, Part
-from drafting.compared import SHARP, drawn, projected
+from drafting.cad.compare import SHARP, drawn, projected
+from drafting.cad.freecad import FreeCAD, Part
+from drafting.cad.rounded_shapes import read_back
 
 AXES = (FreeCAD.Vector(1, 0, 0), FreeCAD.Vector(0, 1, 0), FreeCAD.Vector(0, 0, 1))
 Box = tuple[list[float], list[float]]

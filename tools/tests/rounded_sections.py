@@ -4,9 +4,9 @@ import pathlib
 from collections.abc import Iterator
 from typing import Any
 
-from drafting.bodies import read_back
-from drafting.compared import SHARP, drawn
-from drafting.panels import FRAMES
+from drafting.cad.compare import SHARP, drawn
+from drafting.cad.rounded_shapes import read_back
+from drafting.projection.draw import FRAMES
 
 from . import sheets
 from .rounded_parts import box, draw

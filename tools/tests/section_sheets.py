@@ -9,8 +9,8 @@ from typing import Any, NamedTuple
 from ezdxf.enums import TextEntityAlignment
 from ezdxf.render.arrows import ARROWS
 
-from drafting.drawing import VIEWS
-from drafting.panels import FRAMES, Cell
+from drafting.dxf.drawing import VIEWS
+from drafting.projection.draw import FRAMES, Cell
 
 from . import sheets
 from .cut_solids import Shown, area_of, lines_of, moved_to_zero, seen_from, depth_of, section_of, view_of

@@ -11,9 +11,9 @@ import urllib.parse
 from collections.abc import Iterator
 from typing import Any, NamedTuple
 
-from drafting import program
-from drafting.messages import Refused
-from drafting.session import OWNER, PREFIX
+from drafting.core.messages import Refused
+from drafting.recon import process
+from drafting.serve.folder import OWNER, PREFIX
 
 from .support import TOOLS, is_built
 
@@ -46,7 +46,7 @@ def takes_limits() -> bool:
     """Whether the built program runs within a limit of memory; one that `rt try` built, with checks, doesn't."""
     if not is_built():
         return True
-    words = ["prlimit", f"--as={1 << 31}", str(program.find()), "make", "1"]
+    words = ["prlimit", f"--as={1 << 31}", str(process.find()), "make", "1"]
     return subprocess.run(words, capture_output=True).returncode == 0
 
 
@@ -64,7 +64,7 @@ sys.exit(run.wait())
 def slowed(folder: pathlib.Path) -> pathlib.Path:
     """A program that writes what the built one does, and takes a tenth of a second for each page, so that a search can be stopped."""
     path = folder / "slowed"
-    path.write_text(SLOWED.format(program=str(program.find())))
+    path.write_text(SLOWED.format(program=str(process.find())))
     path.chmod(0o755)
     return path
 
@@ -80,7 +80,7 @@ os.execv({program!r}, [{program!r}, *sys.argv[1:]])
 def hesitant(folder: pathlib.Path) -> pathlib.Path:
     """A program that answers as the built one does, after a minute where it is asked for what goes beyond a drawing's search."""
     path = folder / "hesitant"
-    path.write_text(HESITANT.format(program=str(program.find())))
+    path.write_text(HESITANT.format(program=str(process.find())))
     path.chmod(0o755)
     return path
 

@@ -7,10 +7,10 @@ from typing import Any, NamedTuple
 import ezdxf
 from ezdxf.enums import TextEntityAlignment
 
-from drafting.answers import answer_of
-from drafting.cells import grid_round
-from drafting.drawing import FURTHER, lines_of, views_of
-from drafting.panels import shown_of, strokes_shown
+from drafting.dxf.drawing import FURTHER, lines_of, views_of
+from drafting.projection.cells import grid_round
+from drafting.projection.draw import shown_of, strokes_shown
+from drafting.recon.answer import answer_of
 
 Ends = tuple[tuple[float, float], tuple[float, float]]
 Views = dict[str, list[tuple[bool, Ends]]]

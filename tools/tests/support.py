@@ -8,9 +8,9 @@ import unittest
 from collections.abc import Callable
 from typing import Any, NamedTuple
 
-from drafting import program
-from drafting.messages import Refused
-from drafting.noted import Note, Tell
+from drafting.core.messages import Refused
+from drafting.core.notes import Note, Tell
+from drafting.recon import process
 
 TOOLS = pathlib.Path(__file__).resolve().parent.parent
 EXAMPLES = TOOLS.parent / "examples"
@@ -42,7 +42,7 @@ def in_words(said: list[str]) -> Tell:
 
 def is_built() -> bool:
     try:
-        return bool(program.find())
+        return bool(process.find())
     except Refused:
         return False
 
@@ -51,7 +51,7 @@ Decorated = Callable[[Any], Any]
 
 
 def needs_program() -> Decorated:
-    return unittest.skipUnless(is_built(), f"recon isn't there: {program.BUILD}")
+    return unittest.skipUnless(is_built(), f"recon isn't there: {process.BUILD}")
 
 
 def needs_module(module: str, package: str, folder: str = "") -> Decorated:

@@ -9,9 +9,9 @@ import time
 from collections.abc import Callable
 from typing import NamedTuple
 
-from drafting import program
-from drafting.drawing import decimals_of, lines_within
-from drafting.messages import Refused
+from drafting.core.messages import Refused
+from drafting.dxf.drawing import decimals_of, lines_within
+from drafting.recon import process
 
 from .serving import takes_limits
 from .support import TOOLS
@@ -83,7 +83,7 @@ def kept(folder: pathlib.Path) -> dict[pathlib.Path, bytes]:
 
 def answer_alone(data: bytes) -> tuple[str, str]:
     """The status of `recon solve` of a drawing, and how many solids it lists; none of a fault."""
-    words = [str(program.find()), "solve", "--decimals", str(decimals_of(lines_within(data)))]
+    words = [str(process.find()), "solve", "--decimals", str(decimals_of(lines_within(data)))]
     ended = subprocess.run(words, input=data, capture_output=True)
     solids = sum(line.startswith(b"solid ") for line in ended.stdout.splitlines())
     return str(ended.returncode), str(solids) if ended.returncode != 1 else ""

@@ -7,8 +7,10 @@ import unittest
 from collections.abc import Callable, Iterator, Sequence
 from typing import Any
 
-from drafting import asking, noted, sheet
-from drafting.messages import Refused
+from drafting.core import notes
+from drafting.core.messages import Refused
+from drafting.sheet import pipeline as sheet
+from drafting.solve import pipeline
 
 from .support import EXAMPLES, needs_module, needs_program
 from .test_sheet import arguments
@@ -120,7 +122,7 @@ class Advice(unittest.TestCase):
 
     def refusal(self, file: pathlib.Path, words: Sequence[str]) -> str:
         try:
-            sheet.draw(str(file), arguments("sheet", file, *words), noted.tell_none)
+            sheet.draw(str(file), arguments("sheet", file, *words), notes.tell_none)
         except Refused as refusal:
             return " ".join(str(refusal).split())
         return ""
@@ -185,8 +187,8 @@ class Advice(unittest.TestCase):
             file = self.folder / "half.dxf"
             doc.saveas(file)
             with self.assertRaises(Refused) as caught:
-                asking.ask(str(file), arguments("solve", file), noted.tell_none)
+                pipeline.ask(str(file), arguments("solve", file), notes.tell_none)
             self.assertIn("say --scale 1:2", str(caught.exception))
             self.assertEqual("--as-is" in str(caught.exception), layers)
-            taken = asking.ask(str(file), arguments("solve", "--as-is", file), noted.tell_none).run
+            taken = pipeline.ask(str(file), arguments("solve", "--as-is", file), notes.tell_none).run
             self.assertEqual(taken.status, 0 if layers else 1)

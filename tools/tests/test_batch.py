@@ -12,9 +12,11 @@ import unittest
 from collections.abc import Sequence
 from unittest import mock
 
-from drafting import asking, batch, program
-from drafting.messages import Refused
-from drafting.rows import Row
+from drafting.core.messages import Refused
+from drafting.recon import process as program
+from drafting.solve import pipeline
+from drafting.table import worker
+from drafting.table.rows import Row
 
 from .serving import takes_limits
 from .support import EXAMPLES, needs_module, needs_program
@@ -53,11 +55,11 @@ class Spite(unittest.TestCase):
         size = int(pathlib.Path("/proc/self/statm").read_text().split()[0]) * resource.getpagesize()
         self.memory = (size >> 20) + 512
 
-    def rows(self, *names: str, seconds: float = 60, grown: int = batch.GROWN) -> list[Row]:
-        arguments = batch.options().parse_args(["--seconds", str(seconds), "--memory", str(self.memory)])
-        changed = mock.patch.multiple(batch, GRACE=0.2, GROWN=grown)
-        with changed, mock.patch.object(asking, "ask", ask), contextlib.closing(batch.Workers(arguments)) as workers:
-            return [workers.row(batch.Drawing(number, f"/tmp/{name}", 0, 0), "/tmp") for number, name in enumerate(names)]
+    def rows(self, *names: str, seconds: float = 60, grown: int = worker.GROWN) -> list[Row]:
+        arguments = worker.options().parse_args(["--seconds", str(seconds), "--memory", str(self.memory)])
+        changed = mock.patch.multiple(worker, GRACE=0.2, GROWN=grown)
+        with changed, mock.patch.object(pipeline, "ask", ask), contextlib.closing(worker.Workers(arguments)) as workers:
+            return [workers.row(worker.Drawing(number, f"/tmp/{name}", 0, 0), "/tmp") for number, name in enumerate(names)]
 
     def test_one_worker_for_many(self) -> None:
         rows = self.rows("a", "b", "c")
@@ -102,8 +104,8 @@ class Order(unittest.TestCase):
     def rows(self, files: Sequence[pathlib.Path], room: str) -> dict[int, Row]:
         """The rows of files, but for their times; each has the number that it has among all."""
         words = ["--nodes", "2000", "--program", str(program.find()), *([] if takes_limits() else ["--memory", "0"])]
-        drawings = [batch.Drawing(FILES.index(file), str(file), file.stat().st_size, file.stat().st_mtime_ns) for file in files]
-        rows = {row["number"]: row for row in batch.rows_of(batch.text_of(words, drawings).splitlines(), room)}
+        drawings = [worker.Drawing(FILES.index(file), str(file), file.stat().st_size, file.stat().st_mtime_ns) for file in files]
+        rows = {row["number"]: row for row in worker.rows_of(worker.text_of(words, drawings).splitlines(), room)}
         for row in rows.values():
             del row["seconds"], row["record"]["seconds"]
         return rows

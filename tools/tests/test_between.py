@@ -3,15 +3,15 @@ seen where it is no noise."""
 import math
 from typing import Any
 
-from drafting import given
-from drafting.messages import Refused
-from drafting.rounded import beside
-from drafting.rounds import Quarter
+from drafting.core.messages import Refused
+from drafting.rounds import features
+from drafting.rounds.restore import beside
+from drafting.rounds.rounds import Quarter
 
 from . import test_rounds
 
 if not test_rounds.missing:
-    from drafting import bodies
+    from drafting.cad import rounded_shapes
     from . import rounded_parts as parts
     from .rounded_parts import box, cylinder, filleted
 
@@ -59,10 +59,10 @@ class Noise(test_rounds.InAFolder):
         shape = without.cut(cylinder(2, (150, 150), 0, 1, 1))
         volume = 400_000 - 251 * math.pi
         self.assertLess(without.Volume - volume, 1e-5 * volume)
-        self.assertEqual(bodies.checked(shape, volume, 0.0), shape)
+        self.assertEqual(rounded_shapes.checked(shape, volume, 0.0), shape)
         for wrong in (without, shape.cut(box(0, 0, 0, 1, 1, 0.01))):
             with self.assertRaisesRegex(Refused, "FreeCAD's volume of it is .* was to come"):
-                bodies.checked(wrong, volume, 0.0)
+                rounded_shapes.checked(wrong, volume, 0.0)
 
     def test_how_far_coordinates_are_moved_is_noise(self) -> None:
         parts.sheet_of(box(0, 0, 0, 50, 40, 10).cut(cylinder(2, (20, 20), 0, 10, 5)), self.file)
@@ -79,10 +79,10 @@ class Noise(test_rounds.InAFolder):
         self.assertEqual(asked.rounds.first.given.moved, 0.00005)
 
     def test_it_is_written_and_read(self) -> None:
-        told = given.Given([], {}, {}, [], [], [], holes=(given.Hole("TOP", (9.0, 9.0), 3.0, 0.0, 9.0),), moved=0.00005)
-        read = given.given_in(given.comments(told).splitlines())
+        told = features.Given([], {}, {}, [], [], [], holes=(features.Hole("TOP", (9.0, 9.0), 3.0, 0.0, 9.0),), moved=0.00005)
+        read = features.given_in(features.comments(told).splitlines())
         assert read
-        self.assertEqual((read.moved, given.times(read, 10).moved), (0.00005, 0.0005))
-        self.assertNotIn("moved", given.comments(told._replace(moved=0.0)))
+        self.assertEqual((read.moved, features.times(read, 10).moved), (0.00005, 0.0005))
+        self.assertNotIn("moved", features.comments(told._replace(moved=0.0)))
         with self.assertRaises(Refused):
-            given.given_in(["999", "draft moved -1"])
+            features.given_in(["999", "draft moved -1"])

@@ -2,13 +2,13 @@
 import random
 import unittest
 
-from drafting import blocks, program
-from drafting.answers import answer_of
-from drafting.blocks import OUTSIDE, Blocks, blocks_in
-from drafting.drawing import decimals_of, lines_within, missing_in, views_of
-from drafting.messages import Refused
-from drafting.panels import grid_of, sheet_of
-from drafting.wire import thinned
+from drafting.core.messages import Refused
+from drafting.dxf.drawing import decimals_of, lines_within, missing_in, views_of
+from drafting.projection.draw import grid_of, sheet_of
+from drafting.projection.wireframe import thinned
+from drafting.recon import blocks, process
+from drafting.recon.answer import answer_of
+from drafting.recon.blocks import OUTSIDE, Blocks, blocks_in
 
 from . import logs, made
 from .support import EXAMPLES, draft, needs_program
@@ -20,8 +20,8 @@ DRAWINGS = 60
 def told(data: bytes) -> Blocks:
     """What the program tells of a drawing."""
     lines = lines_within(data)
-    words: list[object] = ["blocks", "--decimals", decimals_of(lines), *([program.TWO_VIEWS] if missing_in(views_of(lines)) else [])]
-    return blocks_in(program.run(program.find(), words, data).text)
+    words: list[object] = ["blocks", "--decimals", decimals_of(lines), *([process.TWO_VIEWS] if missing_in(views_of(lines)) else [])]
+    return blocks_in(process.run(process.find(), words, data).text)
 
 
 def by_cells(its: Blocks) -> dict[tuple[int, ...], int]:
@@ -65,7 +65,7 @@ class Texts(unittest.TestCase):
 @needs_program()
 class OfTheProgram(unittest.TestCase):
     def test_the_example(self) -> None:
-        run = program.run(program.find(), ["blocks"], (EXAMPLES / "quartered_cube.dxf").read_bytes())
+        run = process.run(process.find(), ["blocks"], (EXAMPLES / "quartered_cube.dxf").read_bytes())
         self.assertEqual((run.status, run.text), (0, (EXAMPLES / "quartered_cube_blocks.txt").read_text()))
 
     def test_solids_fill_their_blocks(self) -> None:

@@ -7,9 +7,10 @@ import unittest
 from collections.abc import Callable, Sequence
 from typing import Any, NamedTuple
 
-from drafting import noted, sheet
-from drafting.drawing import Stroke, lines_within, strokes_in
-from drafting.messages import Refused
+from drafting.core import notes
+from drafting.core.messages import Refused
+from drafting.dxf.drawing import Stroke, lines_within, strokes_in
+from drafting.sheet import pipeline
 
 from . import sheets
 from .support import EXAMPLES, draft, in_words, needs_command, needs_module, needs_program
@@ -161,7 +162,7 @@ class Causes(unittest.TestCase):
     def one(self, row: Row, file: pathlib.Path) -> None:
         said: list[str] = []
         try:
-            sheet.draw(str(file), arguments("sheet", file, *row.words), in_words(said))
+            pipeline.draw(str(file), arguments("sheet", file, *row.words), in_words(said))
         except Refused as refusal:
             self.assertTrue(row.refused, f"refused: {refusal}")
             self.assertRegex(" ".join(str(refusal).split()), row.refused)
@@ -178,17 +179,17 @@ class Causes(unittest.TestCase):
             for name, hidden in (("whole", True), ("visible", False)):
                 drawn = {view: [it for it in its if hidden or not it[0]] for view, its in VIEWS.items()}
                 files.append(self.made(lambda space: sheets.draw(space, drawn, places, lambda view, dashed: {"layer": view}), folder, name))
-            made = sheet.draw(str(files[0]), arguments("sheet", files[0], "--visible-only", files[1]), noted.tell_none)
+            made = pipeline.draw(str(files[0]), arguments("sheet", files[0], "--visible-only", files[1]), notes.tell_none)
             pair = pathlib.Path(folder) / "whole.visible.dxf"
             files[1].rename(pair)
-            again = sheet.draw(str(files[0]), arguments("sheet", files[0], "--pairs"), noted.tell_none)
+            again = pipeline.draw(str(files[0]), arguments("sheet", files[0], "--pairs"), notes.tell_none)
             plain = self.made(views, folder, "plain")
-            own = sheet.draw(str(plain), arguments("sheet", plain), noted.tell_none)
+            own = pipeline.draw(str(plain), arguments("sheet", plain), notes.tell_none)
         self.assertEqual(made.text, again.text)
         self.assertEqual(strokes(made), strokes(own))
 
 
-def strokes(drawn: sheet.Drawn) -> dict[str, list[Stroke]]:
+def strokes(drawn: pipeline.Drawn) -> dict[str, list[Stroke]]:
     return strokes_in(lines_within(drawn.text.encode()), drawn.decimals)
 
 

@@ -3,15 +3,15 @@ import random
 from fractions import Fraction
 from typing import Any
 
-from drafting.given import Chamfer, Given, comments, given_in, times
-from drafting.messages import Refused
-from drafting.rounds import Slant
+from drafting.core.messages import Refused
+from drafting.rounds.features import Chamfer, Given, comments, given_in, times
+from drafting.rounds.rounds import Slant
 
 from . import test_rounds
 from .support import draft, needs_long
 
 if not test_rounds.missing:
-    from drafting.cad import Part
+    from drafting.cad.freecad import Part
     from . import rounded_parts as parts
     from .rounded_parts import box, chamfered, cylinder, prism
 
@@ -110,7 +110,7 @@ class Cases(test_rounds.InAFolder):
         self.assertTrue(any("to 4 decimals" in it for it in self.said), self.said)
 
     def test_a_left_view_and_views_from_behind(self) -> None:
-        from drafting.bodies import turned_round
+        from drafting.cad.rounded_shapes import turned_round
         parts.sheet_of(drilled_bracket(), self.file, views=("FRONT", "TOP", "LEFT"))
         self.exact(turned_round(drilled_bracket()))
         parts.sheet_of(drilled_bracket(), self.file, views=("FRONT", "TOP", "SIDE", "LEFT", "REAR"))
@@ -259,23 +259,27 @@ class Words(test_rounds.InAFolder):
         self.assertIn("where an oblique edge of TOP from 16, 0 to 20, 4 is seen from its side", ended.out)
 
     def test_solids_of_two_readings(self) -> None:
-        from drafting import answering, kept, program, shown, sheet
-        from drafting.answers import Solid
-        from drafting.drawing import Origin
+        from drafting.recon import process
+        from drafting.render import html
+        from drafting.rounds import verify as kept
+        from drafting.sheet import pipeline
+        from drafting.solve import readings as answering
+        from drafting.recon.answer import Solid
+        from drafting.dxf.drawing import Origin
 
         def answered(number: int, volume: int) -> answering.Answered:
             solid = Solid("1", volume, [])
             outcome = kept.Outcome(1, 0, [], [kept.Kept(1, solid, (Fraction(volume), Fraction(0)), None)], True)
             given = Given([], {}, {}, [], [], [], (number, 3), (Chamfer("SIDE", Slant((32.0, 8.0), (12.0, 36.0))),))
-            drawn = sheet.Drawn("", 0, Origin("mm", Fraction(1), False))
-            return answering.Answered(drawn, given, program.Run(0, f"whole 1 nodes 1 blocks {number}\n", 0.0), outcome)
+            drawn = pipeline.Drawn("", 0, Origin("mm", Fraction(1), False))
+            return answering.Answered(drawn, given, process.Run(0, f"whole 1 nodes 1 blocks {number}\n", 0.0), outcome)
 
         readings = answering.Readings([], None, 0, 1)
         for number, volume in enumerate((5, 6, 5), 1):
             readings = answering.with_one(readings, answered(number, volume))
         self.assertEqual((len(readings.kept), readings.elsewhere, readings.tried), (2, 1, 3))
         self.assertIn("kept in 2 readings: pages show those of the first one, reading 1", readings.told()[-1])
-        self.assertIn("2 solids made of boxes and these chamfers, each standing free, have these views", shown.head_told("whole 1 nodes 1 blocks 1", 1, "", readings))
+        self.assertIn("2 solids made of boxes and these chamfers, each standing free, have these views", html.head_told("whole 1 nodes 1 blocks 1", 1, "", readings))
 
     def test_a_chamfer_is_written_and_read(self) -> None:
         given = Given([], {}, {}, [], [], [], chamfers=(Chamfer("SIDE", Slant((32.0, 8.0), (12.0, 36.0))),))

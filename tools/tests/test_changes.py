@@ -3,9 +3,9 @@ import itertools
 import random
 import unittest
 
-from drafting import changes
-from drafting.drawing import VIEWS
-from drafting.panels import Grid, Row, panels_of
+from drafting.dxf.drawing import VIEWS
+from drafting.explain import edits
+from drafting.projection.draw import Grid, Row, panels_of
 
 from .made import MISTAKES, canon, cells_of, drawn, painted, random_cuts, random_solid, runs, scattered
 
@@ -28,7 +28,7 @@ class Rules(unittest.TestCase):
         solids = [random_solid(rng, rng.randint(1, 9), rng.randint(1, 9)) for _ in range(200)]
         solids += [scattered(rng, (rng.randint(1, 5), rng.randint(1, 5), rng.randint(1, 5)), rng.random()) for _ in range(200)]
         for number, cells in enumerate(solids):
-            judged = changes.judged(drawn(cells, random_cuts(rng, cells)))
+            judged = edits.judged(drawn(cells, random_cuts(rng, cells)))
             wrong = any(judged.points.values()) or judged.places or judged.strips or judged.outlines
             self.assertFalse(wrong, (number, sorted(cells)))
 
@@ -38,12 +38,12 @@ class Rules(unittest.TestCase):
             cells = random_solid(rng, rng.randint(2, 8), rng.randint(1, 8))
             right = drawn(cells, random_cuts(rng, cells))
             told = rng.choice(MISTAKES[:2])(rng, right, runs(right))
-            spoiled = changes.judged(right._replace(panels=painted(right, told)))
+            spoiled = edits.judged(right._replace(panels=painted(right, told)))
             back = [
-                change for change in changes.single_changes(spoiled)
+                change for change in edits.single_changes(spoiled)
                 if {**spoiled.grid.panels, **dict(change.rows)} == right.panels
             ]
-            self.assertEqual([changes.is_refused(spoiled, change) for change in back], [False], (number, sorted(cells)))
+            self.assertEqual([edits.is_refused(spoiled, change) for change in back], [False], (number, sorted(cells)))
 
     def test_no_stretch_is_lost(self) -> None:
         """On small grids each stretch in each style is tried, against the drawings of all solids there."""
@@ -55,14 +55,14 @@ class Rules(unittest.TestCase):
                 right = Grid(cuts, dict(drawing), {})
                 panels = painted(right, rng.choice(MISTAKES)(rng, right, runs(right)))
                 wanted = {
-                    frozenset({**panels, row: changes.stretch(styles, low, high, style)}.items())
+                    frozenset({**panels, row: edits.stretch(styles, low, high, style)}.items())
                     for row, styles in panels.items() for low, high in itertools.combinations(range(len(styles) + 1), 2)
                     for style in range(3)
                 } & known - {frozenset(panels.items())}
-                judged = changes.judged(right._replace(panels=panels))
+                judged = edits.judged(right._replace(panels=panels))
                 found = {
                     frozenset({**panels, **dict(change.rows)}.items())
-                    for change in changes.single_changes(judged) if not changes.is_refused(judged, change)
+                    for change in edits.single_changes(judged) if not edits.is_refused(judged, change)
                 }
                 self.assertLessEqual(wanted, found)
 

@@ -11,8 +11,8 @@ import unittest
 from unittest import mock
 
 import check_log
-from drafting import program
-from drafting.drawing import further_in, lines_of
+from drafting.dxf.drawing import further_in, lines_of
+from drafting.recon import process
 
 from . import logs, made
 from .support import EXAMPLES, TOOLS, Decorated, is_built, needs_program
@@ -217,9 +217,9 @@ class Reading(unittest.TestCase):
         known = [CUBE, *((EXAMPLES / f"{name}.dxf").read_bytes() for name in ("untidy", "bracket_of_polylines", "bracket", "fractions"))]
         for number in range(DRAWINGS):
             drawing = broken(chance, chance.choice(known))
-            run = program.run(program.find(), ["solve", "--solids", 1], drawing)
+            run = process.run(process.find(), ["solve", "--solids", 1], drawing)
             with self.subTest(number=number):
-                if run.status == program.FAULT:
+                if run.status == process.FAULT:
                     self.assertEqual(said(drawing), (1, run.text), drawing)
                 else:
                     self.assertEqual(said(drawing)[0], check_log.NO_LOG, drawing)
@@ -248,14 +248,14 @@ def broken(chance: random.Random, drawing: bytes) -> bytes:
 def has_logs() -> bool:
     """The built program knows the commands `prove` and `check`."""
     def is_taken(word: str) -> bool:
-        ended = subprocess.run([program.find(), word], stdin=subprocess.DEVNULL, capture_output=True)
-        return ended.returncode != program.USAGE
+        ended = subprocess.run([process.find(), word], stdin=subprocess.DEVNULL, capture_output=True)
+        return ended.returncode != process.USAGE
     return is_built() and is_taken("prove") and is_taken("check")
 
 
 def recon(word: str, data: bytes) -> tuple[int, str]:
     """The status of the built program at this word, and what it writes."""
-    ended = subprocess.run([program.find(), word], input=data, capture_output=True, timeout=600)
+    ended = subprocess.run([process.find(), word], input=data, capture_output=True, timeout=600)
     if ended.stderr:
         raise AssertionError(ended.stderr)
     return ended.returncode, ended.stdout.decode()

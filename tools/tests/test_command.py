@@ -5,7 +5,7 @@ import sys
 import tempfile
 import unittest
 
-from drafting import command
+from drafting.cli import commands
 
 from .support import EXAMPLES, TOOLS, draft
 
@@ -18,7 +18,7 @@ class Command(unittest.TestCase):
             self.assertTrue(ended.out.startswith(begins), ended.out)
 
     def test_help_fits_eighty_columns(self) -> None:
-        for name in ("", *command.MODULES):
+        for name in ("", *commands.MODULES):
             ended = draft(*([name] if name else []), "--help")
             self.assertEqual([line for line in ended.out.splitlines() if len(line) > 80], [], name)
 

@@ -2,10 +2,10 @@
 import unittest
 from typing import Any
 
-from drafting import cones
-from drafting.given import Cone, Given, comments, given_in
-from drafting.messages import Refused
-from drafting.solve import rounded_told
+from drafting.cli.solve import rounded_told
+from drafting.core.messages import Refused
+from drafting.rounds import cones
+from drafting.rounds.features import Cone, Given, comments, given_in
 
 from . import test_rounds
 from .support import draft
@@ -98,7 +98,7 @@ class Cones(test_rounds.InAFolder):
         self.one(boss, "24,000 + 886 pi = 26,783.45 mm³")
 
     def test_a_left_view_and_the_drawing_between(self) -> None:
-        from drafting.bodies import turned_round
+        from drafting.cad.rounded_shapes import turned_round
         parts.sheet_of(drilled_plate(), self.file, views=("FRONT", "TOP", "LEFT"))
         self.exact(turned_round(drilled_plate()))
         drawing = self.file.with_name("squared.dxf")

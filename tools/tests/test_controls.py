@@ -11,12 +11,16 @@ import sys
 import unittest
 from collections.abc import Iterator
 
-from drafting import command, controls, documents, itself, page, service
+from drafting.cli import commands as command
+from drafting.core import page as documents, executable
+from drafting.messages import controls
+from drafting.render import page
+from drafting.serve import routes
 
 from .support import TOOLS
 
 MODULES = [
-    it for folder in ("drafting", "freecad/Recon/recon_addon") for it in sorted((TOOLS / folder).glob("*.py")) if it.name != "controls.py"
+    it for folder in ("drafting", "freecad/Recon/recon_addon") for it in sorted((TOOLS / folder).rglob("*.py")) if it.name != "controls.py"
 ]
 SPELLED = re.compile(r"(?<![\w-])--[a-z]")
 # An option as a program is given it, and the command of another one.
@@ -87,8 +91,8 @@ class Labels(html.parser.HTMLParser):
 
 def told_on(place: str, names: list[str]) -> dict[str, str]:
     """How options are named in a process that tells at a place."""
-    script = "import json, sys; from drafting.controls import option; print(json.dumps({it: option(it, 'x') for it in sys.argv[1:]}))"
-    around = {**os.environ, "PYTHONPATH": str(itself.FOLDER), controls.VARIABLE: place}
+    script = "import json, sys; from drafting.messages.controls import option; print(json.dumps({it: option(it, 'x') for it in sys.argv[1:]}))"
+    around = {**os.environ, "PYTHONPATH": str(executable.FOLDER), controls.VARIABLE: place}
     return dict(json.loads(subprocess.run([sys.executable, "-c", script, *names], env=around, capture_output=True, check=True).stdout))
 
 
@@ -121,6 +125,6 @@ class Options(unittest.TestCase):
             else:
                 self.assertRegex(on_page[name], r"“.+” x")
                 self.assertTrue(control.startswith(on_page[name][1:].partition("”")[0]), (name, control))
-                self.assertTrue(name in service.OPTIONS or name in service.SWITCHES or name == "visible-only", name)
+                self.assertTrue(name in routes.OPTIONS or name in routes.SWITCHES or name == "visible-only", name)
         self.assertEqual(told_on("", ["scale"]), {"scale": "--scale x"})
         self.assertEqual(told_on("panel", ["scale", "part"]), {"scale": "the command line's --scale x", "part": "“Views of ..” x"})

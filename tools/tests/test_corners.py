@@ -2,7 +2,7 @@
 import math
 from typing import Any, NamedTuple
 
-from drafting.messages import Refused
+from drafting.core.messages import Refused
 
 from . import test_rounds
 

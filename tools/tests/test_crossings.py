@@ -5,17 +5,19 @@ import pathlib
 from collections.abc import Callable
 from typing import Any
 
-from drafting import asking, bends, given
-from drafting.bends import Bend, Panel, differing, smoothed
-from drafting.given import Given, Hole, comments, given_in, times
-from drafting.messages import Refused
+from drafting.core.messages import Refused
+from drafting.geometry import free_curves
+from drafting.geometry.free_curves import Bend, Panel, differing, smoothed
+from drafting.rounds import features
+from drafting.rounds.features import Given, Hole, comments, given_in, times
+from drafting.solve import pipeline
 
 from . import test_rounds
 from .support import draft, in_words, needs_long
 from .test_rounds import arguments
 
 if not test_rounds.missing:
-    from drafting.cad import FreeCAD, Part
+    from drafting.cad.freecad import FreeCAD, Part
     from . import rounded_parts as parts
     from .rounded_parts import box, cylinder, obround
     from .test_techdraw import exported
@@ -79,7 +81,7 @@ class Cases(test_rounds.InAFolder):
         self.exact(shape)
 
     def test_the_drawing_between_and_a_left_view(self) -> None:
-        from drafting.bodies import turned_round
+        from drafting.cad.rounded_shapes import turned_round
         shape = ported(off=3)
         parts.sheet_of(shape, self.file)
         drawing = self.file.with_name("squared.dxf")
@@ -197,8 +199,8 @@ class Comments(test_rounds.InAFolder):
         self.assertEqual({it[1:] for it in differing(ellipse(200, 5), ellipse(150, 5, share=0.75))}, {("solid", "nothing")})
         # Between chords of 24 degrees a circle is found as far as they turn.
         places = smoothed([(10 * math.cos(it * math.pi / 7.5), 10 * math.sin(it * math.pi / 7.5)) for it in range(16)])
-        self.assertLess(max(abs(math.hypot(*it) - 10) for it in places), bends.NEAR)
-        self.assertEqual(given.MOST_PLACES, 8)
+        self.assertLess(max(abs(math.hypot(*it) - 10) for it in places), free_curves.NEAR)
+        self.assertEqual(features.MOST_PLACES, 8)
 
 
 class RandomParts(test_rounds.InAFolder):
@@ -210,7 +212,7 @@ class RandomParts(test_rounds.InAFolder):
             whole, visible = exported(shape, pathlib.Path(self.file.parent))
             with self.subTest(seed=seed):
                 self.said: list[str] = []
-                self.exact(shape, asking.ask(str(whole), arguments("solve", whole, "--visible-only", visible), in_words(self.said)))
+                self.exact(shape, pipeline.ask(str(whole), arguments("solve", whole, "--visible-only", visible), in_words(self.said)))
 
     def test_some(self) -> None:
         self.some(0, PARTS)

@@ -3,7 +3,7 @@ import itertools
 import random
 import unittest
 
-from drafting.panels import FRAMES, SOLID, Cell, shown_of
+from drafting.projection.draw import FRAMES, SOLID, Cell, shown_of
 
 from .cut_solids import Shown, area_of, depth_of, drawn, layers_of, moved_to_zero, planes_through, section_of, seen_from, unit_cells, view_of
 from .made import random_cuts, random_solid

@@ -10,20 +10,22 @@ import zipfile
 from collections.abc import Callable
 from typing import Any, NamedTuple
 
-from drafting import asking, left_open, noted
-from drafting.drawing import lines_within
-from drafting.messages import Refused
-from drafting.section_layers import strokes_in_all
+from drafting.core import notes
+from drafting.core.messages import Refused
+from drafting.dxf.drawing import lines_within
+from drafting.explain import hidden_unknown
+from drafting.projection.sections import strokes_in_all
+from drafting.solve import pipeline
 
 from .parts import Box, boxes_of, cells_of
 from .support import TOOLS, draft, in_words, needs_long, needs_program
 
 try:
-    from drafting.cad import FreeCAD, Part
+    from drafting.cad.freecad import FreeCAD, Part
 
     from . import documents
     from .documents import Document, box, corner, placement, quartered, without_a_corner
-    from drafting import in_place
+    from drafting.cad import in_document
     missing = ""
 except Refused:
     missing = "apt-get install freecad-python3"
@@ -41,20 +43,20 @@ class Told(NamedTuple):
     said: list[str]
     part: list[int]
     solids: int
-    asked: asking.Asked
+    asked: pipeline.Asked
 
 
 def arguments(*words: object) -> argparse.Namespace:
     parser = argparse.ArgumentParser()
-    asking.add_arguments(parser)
+    pipeline.add_arguments(parser)
     return parser.parse_args(["--solids", str(MOST_SOLIDS), *map(str, words)])
 
 
 def told(path: pathlib.Path, known: Any, *words: object) -> Told:
     """What comes of a document, of whose solids those are told that are a known shape where that stands."""
     said: list[str] = []
-    asked = asking.ask(str(path), arguments(*words), in_words(said))
-    its = list(in_place.stood(asked))
+    asked = pipeline.ask(str(path), arguments(*words), in_words(said))
+    its = list(in_document.stood(asked))
     same = [at for at, it in enumerate(its, 1) if it.is_part and it.shape.cut(known).Volume + known.cut(it.shape).Volume < 1e-6 * known.Volume]
     return Told(said, same, len(its), asked)
 
@@ -396,7 +398,7 @@ class Traps(unittest.TestCase):
             return feature.Shape
 
         it = of_made(make)
-        rows = left_open.told(it.asked, arguments())
+        rows = hidden_unknown.told(it.asked, arguments())
         self.assertIn("which it doesn't show in Top.", rows[0])
         self.assertEqual(of_made(lambda one: in_a_group(one, corner())).asked.page.lacking, [])  # type: ignore[union-attr]
 
@@ -413,8 +415,8 @@ class Traps(unittest.TestCase):
             group = one.group(one.page(), [feature], front=((0, -2, 0), (3, 0, 0)))
             one.doc.recompute()
             before = [(tuple(it.Direction), tuple(it.XDirection), it.HardHidden, it.State) for it in group.Views]
-            from drafting import techdraw
-            page, _ = techdraw.taken(techdraw.page_of(one.doc, None), None, noted.tell_none)
+            from drafting.cad import techdraw
+            page, _ = techdraw.taken(techdraw.page_of(one.doc, None), None, notes.tell_none)
             self.assertEqual([(tuple(it.Direction), tuple(it.XDirection), it.HardHidden, it.State) for it in group.Views], before)
             self.assertEqual(tuple(group.Views[0].Direction), (0.0, -2.0, 0.0))
             names = [it.Name for it in one.doc.Objects]

@@ -5,9 +5,10 @@ import unittest
 from collections.abc import Callable
 from typing import Any, NamedTuple
 
-from drafting import asking, command
-from drafting.answers import answer_of
-from drafting.messages import Refused
+from drafting.cli import commands
+from drafting.core.messages import Refused
+from drafting.recon.answer import answer_of
+from drafting.solve import pipeline
 
 from .support import EXAMPLES, in_words, needs_module, needs_program
 
@@ -17,7 +18,7 @@ try:
 except ImportError:
     ezdxf = sheets = test_causes = test_scale = test_sections = None  # type: ignore[assignment]
 
-PARSER = command.parser_of(command.commands("solve"))
+PARSER = commands.parser_of(commands.commands("solve"))
 # What is said of the clevis, 6 by 4 by 4, at full size; and of a sheet without its side view.
 PART, TWO = "1 solid of volume 41", "two views, without SIDE"
 
@@ -163,7 +164,7 @@ class Forms(unittest.TestCase):
         """What came of a sheet, in one line: `=` and what is told of its solids, or `!` and the refusal."""
         said: list[str] = []
         try:
-            asked = asking.ask(str(file), PARSER.parse_args(["solve", str(file), *words.split()]), in_words(said))
+            asked = pipeline.ask(str(file), PARSER.parse_args(["solve", str(file), *words.split()]), in_words(said))
         except Refused as refusal:
             return "!" + " ".join(str(refusal).split())
         answer = answer_of(asked.run.text)

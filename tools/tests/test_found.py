@@ -7,7 +7,8 @@ import sys
 import tempfile
 import unittest
 
-from drafting import itself, program
+from drafting.core import executable
+from drafting.recon import process as program
 
 from .support import EXAMPLES, TOOLS, needs_command, needs_program
 
@@ -69,7 +70,7 @@ class Found(unittest.TestCase):
             self.assertIn(f", which {who} names, is no program that may be run", ended.stderr)
 
     def test_draft_starts_itself_from_any_folder(self) -> None:
-        ended = subprocess.run(itself.words("--version"), capture_output=True, text=True, cwd=self.work)
+        ended = subprocess.run(executable.words("--version"), capture_output=True, text=True, cwd=self.work)
         self.assertTrue(ended.stdout.startswith("draft "), ended.stderr)
 
     @needs_command("parallel", "parallel")

@@ -2,13 +2,13 @@
 all commands name the curves that the other views don't confirm."""
 from typing import Any
 
-from drafting.given import Given, comments, given_in
+from drafting.rounds.features import Given, comments, given_in
 
 from . import test_rounds
 from .support import draft
 
 if not test_rounds.missing:
-    from drafting.compared import SHARP
+    from drafting.cad.compare import SHARP
     from . import rounded_parts as parts
     from .rounded_parts import box, cylinder
 

@@ -8,14 +8,16 @@ import re
 import tempfile
 import unittest
 
-from drafting import program, settle, shown
-from drafting.answers import answer_of
-from drafting.cells import grid_round
-from drafting.drawing import FURTHER, Origin, further_in, lines_of, lines_within, places_of, views_of, written
-from drafting.messages import Refused
-from drafting.panels import SOLID, Shown, further_of, shown_of, strokes_shown
-from drafting.shown import Units
-from drafting.trials import entity, with_entities
+from drafting.core.messages import Refused
+from drafting.dxf.drawing import FURTHER, Origin, further_in, lines_of, lines_within, places_of, views_of, written
+from drafting.explain import settle
+from drafting.projection.cells import grid_round
+from drafting.projection.draw import SOLID, Shown, further_of, shown_of, strokes_shown
+from drafting.recon import process
+from drafting.recon.answer import answer_of
+from drafting.recon.many import entity, with_entities
+from drafting.render import html
+from drafting.render.html import Units
 
 from .made import drawn, lines_of_runs, pierced, random_cuts, random_solid, runs
 from .support import EXAMPLES, draft, needs_command, needs_module, needs_program
@@ -79,7 +81,7 @@ class Read(InAFolder):
         """On the picture TOP stands above FRONT and BOTTOM below it, LEFT, FRONT, SIDE and REAR in a row."""
         views = {view: rectangles(f"S 0 0 {width} {height}") for view, width, height in
                  (("FRONT", 6, 4), ("TOP", 6, 3), ("SIDE", 3, 4), ("LEFT", 3, 4), ("REAR", 6, 4), ("BOTTOM", 6, 3))}
-        told = shown.views_told(views_of(lines_within(written(views, 0).encode())), Units(0, Origin()))
+        told = html.views_told(views_of(lines_within(written(views, 0).encode())), Units(0, Origin()))
         boxes = {}
         for view in views:
             points = [tuple(map(float, point)) for ends in re.findall(rf'd="M([^"]*)" data-told="{view},', told)
@@ -112,7 +114,7 @@ class Solids(InAFolder):
                      for view in rng.sample(FURTHER, rng.randint(1, 3))}
             words = ["solve", "--solids", 200]
             both = written({**main, **views}, 0).encode()
-            alone, beside = (program.run(program.find(), words, data).text for data in (written(main, 0).encode(), both))
+            alone, beside = (process.run(process.find(), words, data).text for data in (written(main, 0).encode(), both))
             self.assertEqual(beside.startswith("whole"), alone.startswith("whole"))
             if alone.startswith("whole"):
                 wanted = sifted(alone, further_of(views_of(lines_within(both)), 0))
@@ -120,7 +122,7 @@ class Solids(InAFolder):
                     self.assertEqual(choices_in(beside), wanted, both)
                     self.assertEqual(beside.split()[1:6], [str(len(wanted)), *alone.split()[2:6]])
                     if number % 5 == 0:
-                        paged = program.run(program.find(), [*words, "--pages", "--workers", 3], both).text
+                        paged = process.run(process.find(), [*words, "--pages", "--workers", 3], both).text
                         self.assertEqual(sorted(re.findall(r"(?m)^choice ([01]+)$", paged)), sorted(wanted))
                         self.assertEqual(paged[paged.index("whole "):], beside)
                 counts[0 if not wanted else 1 if len(wanted) < len(choices_in(alone)) else 2] += 1
@@ -140,7 +142,7 @@ class Solids(InAFolder):
         ended = draft("clean", self.file, "--output", self.out)
         self.assertEqual(ended.status, 0, ended.said)
         self.assertEqual(*(further_of(views_of(lines_of(str(file))), 0) for file in (self.file, self.out)))
-        self.assertEqual(*(program.run(program.find(), ["solve"], file.read_bytes()).text for file in (self.file, self.out)))
+        self.assertEqual(*(process.run(process.find(), ["solve"], file.read_bytes()).text for file in (self.file, self.out)))
 
     def test_logs_are_of_the_three_main_views(self) -> None:
         ended = draft("prove", FROM_LEFT)
@@ -161,11 +163,11 @@ class Solids(InAFolder):
         self.assertIn("One solid has these views.", next(event["html"] for event in events if event["kind"] == "end"))
 
     def test_what_settle_says_is_checked(self) -> None:
-        found = program.run(program.find(), ["solve"], (EXAMPLES / "quartered_cube.dxf").read_bytes()).text
+        found = process.run(process.find(), ["solve"], (EXAMPLES / "quartered_cube.dxf").read_bytes()).text
         faces = {solid.choice: solid.faces for solid in answer_of(found).solids}
         with self.assertRaisesRegex(Refused, "lists other solids than the 1 that are left: whole 1 "):
-            settle.checked(FROM_LEFT.read_text(), program.find(), [], [faces["10010110"]], 60)
-        self.assertIn("just that.", settle.checked(FROM_LEFT.read_text(), program.find(), [], [faces["10110110"]], 60))
+            settle.checked(FROM_LEFT.read_text(), process.find(), [], [faces["10010110"]], 60)
+        self.assertIn("just that.", settle.checked(FROM_LEFT.read_text(), process.find(), [], [faces["10110110"]], 60))
 
 
 @needs_program()

@@ -1,8 +1,8 @@
 """Plain holes whose squares would meet those of others are taken off and put back; what is changed about them never keeps the part."""
 from typing import Any
 
-from drafting.given import Given, Hole, comments, given_in, times
-from drafting.messages import Refused
+from drafting.core.messages import Refused
+from drafting.rounds.features import Given, Hole, comments, given_in, times
 
 from . import test_rounds
 from .support import draft
@@ -54,7 +54,7 @@ class Holes(test_rounds.InAFolder):
             self.assertIn(told, draft("solve", self.file).out)
 
     def test_a_left_view_and_the_drawing_between(self) -> None:
-        from drafting.bodies import turned_round
+        from drafting.cad.rounded_shapes import turned_round
         parts.sheet_of(motor_plate(), self.file, views=("FRONT", "TOP", "LEFT"))
         self.exact(turned_round(motor_plate()))
         drawing = self.file.with_name("squared.dxf")

@@ -5,7 +5,7 @@ import re
 import tempfile
 import unittest
 
-from drafting import program
+from drafting.recon import process
 
 from .made import drawn, file_of, random_cuts, random_solid, scattered
 from .support import EXAMPLES, Ended, draft, needs_command, needs_program
@@ -77,7 +77,7 @@ class Judge(unittest.TestCase):
             else:
                 cells = scattered(rng, (rng.randint(1, 3), rng.randint(1, 3), rng.randint(1, 3)), 0.6)
             drawing = file_of(drawn(cells, random_cuts(rng, cells)))
-            answer = program.run(program.find(), ["solve", "--solids", 200], drawing.encode()).text
+            answer = process.run(process.find(), ["solve", "--solids", 200], drawing.encode()).text
             ended = self.judged(drawing, answer)
             self.assertEqual(ended.status, 0, (number, ended.said, sorted(cells)))
             solids = solids_in(answer)
@@ -87,7 +87,7 @@ class Judge(unittest.TestCase):
                 self.assertEqual(ended.status, 1, (number, sorted(cells)))
 
     def test_an_answer_that_was_cut(self) -> None:
-        answer = program.run(program.find(), ["solve", "--solids", 5], (EXAMPLES / "eight_voids.dxf").read_bytes()).text
+        answer = process.run(process.find(), ["solve", "--solids", 5], (EXAMPLES / "eight_voids.dxf").read_bytes()).text
         ended = self.judged((EXAMPLES / "eight_voids.dxf").read_text(), answer)
         self.assertEqual((ended.status, ended.out[:20]), (0, "The answer was cut. "), ended.said)
 

@@ -14,8 +14,8 @@ from fractions import Fraction
 from typing import Any
 
 import recon
-from drafting.noted import KINDS
-from drafting.records import exact
+from drafting.core.notes import KINDS
+from drafting.report.record import exact
 
 from .support import EXAMPLES, TOOLS, draft, needs_command, needs_module, needs_program
 

@@ -7,7 +7,9 @@ import tempfile
 import unittest
 from unittest import mock
 
-from drafting import machines, program, sums
+from drafting.core import provenance
+from drafting.recon import process
+from drafting.table import machines
 
 from .machines import Machines, needs_own_files, needs_sshd
 from .support import EXAMPLES, TOOLS, needs_command, needs_program
@@ -85,7 +87,7 @@ class OnMachines(unittest.TestCase):
         other.chmod(0o755)
         self.machines.begin("good")
         self.machines.begin("draftless", hidden=[TOOLS])
-        self.machines.begin("old", others=[(other, program.find())])
+        self.machines.begin("old", others=[(other, process.find())])
         self.machines.begin("gone")
         self.machines.end("gone")
         ended = self.table("--sshlogin", "good,draftless,old,gone", "--jobs", "2")
@@ -106,7 +108,7 @@ class OnMachines(unittest.TestCase):
             (self.machines.home(name) / ".bashrc").write_text(f"{login}\n")
             said: list[str] = []
             with mock.patch.dict(os.environ, self.machines.variables), mock.patch.multiple(machines, CHECKED=seconds, say=said.append):
-                found = machines.fit(machines.machines_of([name]), program.find(), sums.of(program.find()))
+                found = machines.fit(machines.machines_of([name]), process.find(), provenance.of(process.find()))
             self.assertEqual(found, [])
             self.assertIn(f"{name} is left out: it doesn't tell what it has: {why}", said[0])
 

@@ -10,7 +10,8 @@ import tempfile
 import time
 import unittest
 
-from drafting import __version__, program
+from drafting import __version__
+from drafting.recon import process
 
 from .support import TOOLS, draft, needs_command, needs_module, needs_program
 
@@ -45,7 +46,7 @@ class Package(unittest.TestCase):
 
     def made(self, folder: str) -> pathlib.Path:
         (self.room / folder).mkdir()
-        ended = ran(TOOLS / "package", "--unproved", program.find(), "--output", self.room / folder)
+        ended = ran(TOOLS / "package", "--unproved", process.find(), "--output", self.room / folder)
         self.assertEqual(ended.returncode, 0, ended.stderr)
         self.assertIn("no licence is stated", ended.stderr)
         return pathlib.Path(ended.stdout.strip())
@@ -59,10 +60,10 @@ class Package(unittest.TestCase):
         self.assertIn("UNPROVED", fields["Description"])
         tree = self.room / "tree"
         ran("dpkg-deb", "-x", file, tree)
-        self.assertEqual((tree / "usr/bin/recon").read_bytes(), program.find().read_bytes())
+        self.assertEqual((tree / "usr/bin/recon").read_bytes(), process.find().read_bytes())
         told = (tree / "usr/share/doc/recon/PROVED").read_text()
         self.assertIn("\nUNPROVED: ", told)
-        self.assertIn(hashlib.sha256(program.find().read_bytes()).hexdigest(), told)
+        self.assertIn(hashlib.sha256(process.find().read_bytes()).hexdigest(), told)
         for name in ("recon", "draft", "recon-check-log"):
             page = gzip.decompress((tree / f"usr/share/man/man1/{name}.1.gz").read_bytes()).decode().replace("\\", "")
             self.assertIn(f"\n{name} - ", page)
@@ -99,7 +100,7 @@ class Package(unittest.TestCase):
         path = f"{rt.parent}:{os.environ['PATH']}"
 
         def packaged(last: str, status: int) -> "subprocess.CompletedProcess[str]":
-            rt.write_text(GATE.format(program=program.find(), last=last, status=status))
+            rt.write_text(GATE.format(program=process.find(), last=last, status=status))
             rt.chmod(0o755)
             return ran(copy / "tools" / "package", "--output", self.room, folder=copy, PATH=path)
 

@@ -7,11 +7,11 @@ import tempfile
 import unittest
 from collections import Counter
 
-from drafting import page
-from drafting.blocks import Blocks, blocks_in
-from drafting.drawing import Origin, content_of, lines_of, lines_within, origin_of, passed_over, views_of, written
-from drafting.follow import Event, solids_event
-from drafting.messages import Refused
+from drafting.core.messages import Refused
+from drafting.dxf.drawing import Origin, content_of, lines_of, lines_within, origin_of, passed_over, views_of, written
+from drafting.live.search import Event, solids_event
+from drafting.recon.blocks import Blocks, blocks_in
+from drafting.render import page
 
 from .made import lines_of_runs, runs, voids
 from .support import EXAMPLES, TOOLS, draft, needs_module, needs_program

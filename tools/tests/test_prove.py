@@ -5,7 +5,8 @@ import sys
 import tempfile
 import unittest
 
-from drafting import check, program
+from drafting.cli import check
+from drafting.recon import process
 
 from .support import EXAMPLES, TOOLS, draft, needs_module, needs_program
 
@@ -97,7 +98,7 @@ class WrongLogs(InAFolder):
     def refused(self, lines: list[str], *words: str) -> None:
         self.log.write_text("".join(f"{line}\n" for line in lines))
         ended = draft("check", self.FILE, self.log)
-        self.assertEqual((ended.status, ended.out), (program.NO_LOG, ""), ended.said)
+        self.assertEqual((ended.status, ended.out), (process.NO_LOG, ""), ended.said)
         for text in words:
             self.assertIn(text, ended.said)
 
@@ -126,13 +127,13 @@ class WrongLogs(InAFolder):
         ):
             self.log.write_text(f"log 1 blocks 1\n{line}\n")
             ended = draft("check", EXAMPLES / f"{name}.dxf", self.log)
-            self.assertEqual(ended.status, program.NO_LOG)
+            self.assertEqual(ended.status, process.NO_LOG)
             self.assertIn(f"the line of the grid is {place}\n", ended.said)
         self.refused([self.lines[0], "fail front l 3 0"], "a line of the grid that isn't there")
 
     def test_the_log_of_another_drawing(self) -> None:
         self.log.write_text("log 1 blocks 1\nforce 0 1 front l 0 0\nsolid\nend 1\n")
-        self.assertEqual(draft("check", self.FILE, self.log).status, program.NO_LOG)
+        self.assertEqual(draft("check", self.FILE, self.log).status, process.NO_LOG)
         self.assertEqual(draft("check", EXAMPLES / "unit_cube.dxf", self.log).status, 0)
 
     def test_every_kind_has_words(self) -> None:
@@ -142,7 +143,7 @@ class WrongLogs(InAFolder):
         for data in (b"", b"\xff\n", b"\0" * 1000, b"0\nSECTION\n"):
             self.log.write_bytes(data)
             ended = draft("check", self.FILE, self.log)
-            self.assertEqual((ended.status, ended.out), (program.NO_LOG, ""))
+            self.assertEqual((ended.status, ended.out), (process.NO_LOG, ""))
         ended = draft("check", self.FILE, self.folder / "none")
         self.assertEqual((ended.status, ended.out), (1, ""))
         self.assertIn("none: No such file or directory", ended.said)

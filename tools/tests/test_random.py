@@ -7,8 +7,9 @@ from collections.abc import Callable
 from fractions import Fraction
 from typing import Any
 
-from drafting import program, sheet
-from drafting.drawing import FURTHER, lines_within, views_of, written
+from drafting.dxf.drawing import FURTHER, lines_within, views_of, written
+from drafting.recon import process
+from drafting.sheet import pipeline
 
 from .support import EXAMPLES, in_words, needs_module, needs_program
 from .test_sheet import arguments, plain_answer, solved
@@ -47,7 +48,7 @@ class RandomSheets(unittest.TestCase):
         mirrored = (angle == "third") == left
         further: list[str] = []
         if chance.random() < 0.5:
-            base.write_text(program.run(program.find(), ["make", seed], b"").text)
+            base.write_text(process.run(process.find(), ["make", seed], b"").text)
         else:
             base.write_bytes((EXAMPLES / name).read_bytes())
             further = chance.sample([view for view in FURTHER if not mirrored or view != "LEFT"], chance.randint(0, 2))
@@ -59,7 +60,7 @@ class RandomSheets(unittest.TestCase):
         file, words = self.drawn(chance, views, folder, angle, left)
         words += ["--angle", angle] if "BOTTOM" in further else []
         said: list[str] = []
-        made = sheet.draw(str(file), arguments("sheet", file, *words), in_words(said))
+        made = pipeline.draw(str(file), arguments("sheet", file, *words), in_words(said))
         self.assertEqual(made.origin.mirrored, mirrored)
         # Lengths are those of the drawing, times what the scale and the decimals make of them.
         own, told = plain_views(base.read_bytes(), 0), plain_views(made.text.encode(), made.decimals)
@@ -117,17 +118,17 @@ class RandomSheets(unittest.TestCase):
                 f"B{number}", (scale * x, scale * y), dxfattribs={"xscale": scale, "yscale": scale, "zscale": scale})
 
 
-def plain_views(data: bytes, decimals: int) -> dict[str, list[sheet.Whole]]:
+def plain_views(data: bytes, decimals: int) -> dict[str, list[pipeline.Whole]]:
     """The runs of a drawing's views in whole units, each from its least corner on; two drawings with the same ones have one answer."""
     views = {}
     for view, lines in views_of(lines_within(data)).items():
         whole = [(line.dashed, *(round(it * 10**decimals) for it in (*line.start, *line.end))) for line in lines]
         x, y = min(min(a, c) for _, a, _, c, _ in whole), min(min(b, d) for _, _, b, _, d in whole)
-        runs: list[sheet.Whole] = []
+        runs: list[pipeline.Whole] = []
         for dashed, a, b, c, d in whole:
             at, low, high = (a - x, *sorted((b - y, d - y))) if a == c else (b - y, *sorted((a - x, c - x)))
             runs += [(bool(dashed), a == c, at, low, high)] if low < high else []
-        views[view] = sheet.plain(runs)
+        views[view] = pipeline.plain(runs)
     return views
 
 

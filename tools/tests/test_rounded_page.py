@@ -4,7 +4,7 @@ import re
 import unittest
 from typing import Any
 
-from drafting.messages import Refused
+from drafting.core.messages import Refused
 
 from .opened import PATIENCE, Opened
 from .support import draft, needs_command, needs_program

@@ -7,21 +7,22 @@ import tempfile
 import unittest
 from typing import Any
 
-from drafting import asking, command
-from drafting.messages import Refused
-from drafting.solve import rounded_told
+from drafting.cli import commands
+from drafting.cli.solve import rounded_told
+from drafting.core.messages import Refused
+from drafting.solve import pipeline
 
 from .support import draft, in_words, needs_long, needs_module, needs_program
 
 try:
-    from drafting.cad import FreeCAD, Part
+    from drafting.cad.freecad import FreeCAD, Part
     from . import rounded_parts as parts
     from .rounded_parts import box, cylinder, filleted, obround
     missing = ""
 except Refused:
     missing = "apt-get install freecad-python3"
 
-PARSER = command.parser_of(command.commands())
+PARSER = commands.parser_of(commands.commands())
 PARTS, MANY = 20, 160
 
 
@@ -38,11 +39,11 @@ class InAFolder(unittest.TestCase):
         self.addCleanup(folder.cleanup)
         self.file = pathlib.Path(folder.name) / "part.dxf"
 
-    def asked(self, *words: object) -> asking.Asked:
+    def asked(self, *words: object) -> pipeline.Asked:
         self.said: list[str] = []
-        return asking.ask(str(self.file), arguments("solve", self.file, *words), in_words(self.said))
+        return pipeline.ask(str(self.file), arguments("solve", self.file, *words), in_words(self.said))
 
-    def exact(self, shape: Any, asked: asking.Asked | None = None) -> None:
+    def exact(self, shape: Any, asked: pipeline.Asked | None = None) -> None:
         """Just this part is kept."""
         asked = asked or self.asked()
         told = rounded_told(asked, asked.rounds, 9) if asked.rounds else []
@@ -194,7 +195,7 @@ class OtherViews(InAFolder):
         return filleted(shape, 6, 2, lambda point: point.x < 1 and point.y < 1)
 
     def test_a_left_view_alone(self) -> None:
-        from drafting.bodies import turned_round
+        from drafting.cad.rounded_shapes import turned_round
         shape = self.part()
         parts.sheet_of(shape, self.file, views=("FRONT", "TOP", "LEFT"))
         asked = self.asked()

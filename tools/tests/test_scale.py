@@ -6,9 +6,9 @@ from collections.abc import Callable, Sequence
 from fractions import Fraction
 from typing import Any, NamedTuple
 
-from drafting import scale, sheet
-from drafting.drawing import lines_within, strokes_in
-from drafting.messages import Refused
+from drafting.core.messages import Refused
+from drafting.dxf.drawing import lines_within, strokes_in
+from drafting.sheet import scale, pipeline
 
 from .support import EXAMPLES, draft, in_words, needs_module, needs_program
 from .test_sheet import arguments
@@ -150,7 +150,7 @@ class Scales(unittest.TestCase):
     def one(self, row: Row, file: pathlib.Path) -> None:
         said: list[str] = []
         try:
-            drawn = sheet.draw(str(file), arguments("sheet", file, *row.words), in_words(said))
+            drawn = pipeline.draw(str(file), arguments("sheet", file, *row.words), in_words(said))
         except Refused as refusal:
             self.assertTrue(row.refused, f"refused: {refusal}; {said}")
             self.assertRegex(" ".join(str(refusal).split()), row.refused)

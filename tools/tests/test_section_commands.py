@@ -6,8 +6,8 @@ import re
 import tempfile
 import unittest
 
-from drafting import program
-from drafting.drawing import VIEWS, Stroke, entries_of, lines_of, strokes_in, written
+from drafting.dxf.drawing import VIEWS, Stroke, entries_of, lines_of, strokes_in, written
+from drafting.recon import process
 
 from .cut_solids import lines_of as strokes_of
 from .made import drawn, file_of, pierced, random_cuts
@@ -112,7 +112,7 @@ class Asked(InAFolder):
         self.quartered({"SECTION_FRONT_1": FALLING})
         self.assertIn("The same: 1 solid by clingo", draft("judge", self.file, "--sections").out)
         answer = self.folder / "answer"
-        answer.write_text(program.run(program.find(), ["solve"], self.file.read_bytes()).text)
+        answer.write_text(process.run(process.find(), ["solve"], self.file.read_bytes()).text)
         ended = draft("judge", self.file, answer, "--sections")
         self.assertEqual(ended.status, 1)
         self.assertIn("solid 1 doesn't have these views", ended.said)
@@ -193,9 +193,9 @@ class Settle(InAFolder):
         self.assertRegex(said, r"its sections are read by `draft solve --sections`, or `recon solve --sections( --decimals 1)?`\n")
         asked = re.search(r"`recon (solve .*)`", said)
         assert asked
-        first = program.run(program.find(), ["solve"], self.file.read_bytes()).text
+        first = process.run(process.find(), ["solve"], self.file.read_bytes()).text
         words: list[object] = [*asked[1].split()]
-        run = program.run(program.find(), words, self.out.read_bytes())
+        run = process.run(process.find(), words, self.out.read_bytes())
         self.assertTrue(run.text.startswith("whole 1 "))
         self.assertEqual(re.search(r"choice (\d+)", run.text)[1], re.search(r"choice (\d+)", first)[1])  # type: ignore[index]
 
@@ -233,7 +233,7 @@ class Settle(InAFolder):
             cells = pierced(rng)
             grid = drawn(cells, random_cuts(rng, cells))
             self.file.write_text(file_of(grid))
-            count = int(program.run(program.find(), ["solve"], self.file.read_bytes()).text.split()[1])
+            count = int(process.run(process.find(), ["solve"], self.file.read_bytes()).text.split()[1])
             if 1 < count < 200:
                 tried += 1
                 ended = draft("settle", self.file, "--meant", rng.randint(1, count), "--write", self.out)

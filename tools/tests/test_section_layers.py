@@ -4,11 +4,11 @@ import random
 import unittest
 from typing import NamedTuple
 
-from drafting import program
-from drafting.answers import Solid, answer_of
-from drafting.cells import grid_round
-from drafting.drawing import Stroke, lines_of, strokes_in, written
-from drafting.panels import FRAMES, Cell
+from drafting.dxf.drawing import Stroke, lines_of, strokes_in, written
+from drafting.projection.cells import grid_round
+from drafting.projection.draw import FRAMES, Cell
+from drafting.recon import process
+from drafting.recon.answer import Solid, answer_of
 
 from .cut_solids import Shown, area_of, layers_of, lines_of as strokes_of, planes_through, section_of, unit_cells
 from .made import drawn, lines_of_runs, pierced, random_cuts, random_solid, runs
@@ -36,8 +36,8 @@ def cells_of(solid: Solid) -> set[Cell]:
     return unit_cells(grid.all_in(grid.cells(solid)), grid.cuts)
 
 
-def said(views: Views, *words: object, data: bytes = b"") -> program.Run:
-    return program.run(program.find(), list(words), written(views, 0).encode() + data)
+def said(views: Views, *words: object, data: bytes = b"") -> process.Run:
+    return process.run(process.find(), list(words), written(views, 0).encode() + data)
 
 
 def choices_in(text: str) -> list[str]:

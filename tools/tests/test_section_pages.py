@@ -5,10 +5,10 @@ import unittest
 from collections.abc import Iterable
 from typing import Any
 
-from drafting.drawing import VIEWS, Stroke, is_of_section, lines_within, places_of, sections_drawn, views_of, written
-from drafting.panels import FRAMES, Cell
-from drafting.section_pictures import drawn_sections, figures, place_of, planes_in, runs_in, within
-from drafting.svg import View
+from drafting.dxf.drawing import VIEWS, Stroke, is_of_section, lines_within, places_of, sections_drawn, views_of, written
+from drafting.projection.draw import FRAMES, Cell
+from drafting.render.sections import drawn_sections, figures, place_of, planes_in, runs_in, within
+from drafting.render.svg import View
 
 from .cut_solids import layers_of, lines_of, view_of
 from .opened import IS_OVER, PATIENCE, Opened, button

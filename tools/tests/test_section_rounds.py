@@ -5,7 +5,7 @@ import unittest
 from collections import Counter
 from typing import Any
 
-from drafting.messages import Refused
+from drafting.core.messages import Refused
 
 from .support import needs_long
 from .test_rounds import InAFolder

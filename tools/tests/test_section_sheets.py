@@ -8,12 +8,15 @@ import unittest
 from collections import Counter
 from collections.abc import Iterable
 
-from drafting import asking, command, ruled_out, sheet, solve
-from drafting.drawing import lines_within
-from drafting.messages import Refused
-from drafting.noted import tell_none
-from drafting.panels import FRAMES, Cell
-from drafting.section_layers import strokes_in_all
+from drafting.cli import commands, solve
+from drafting.core.messages import Refused
+from drafting.core.notes import tell_none
+from drafting.dxf.drawing import lines_within
+from drafting.explain import ruled_out
+from drafting.projection.draw import FRAMES, Cell
+from drafting.projection.sections import strokes_in_all
+from drafting.sheet import pipeline as sheet
+from drafting.solve import pipeline
 
 from .cut_solids import Shown, area_of, planes_through, section_of, unit_cells, view_of
 from .made import pierced, random_solid
@@ -26,7 +29,7 @@ try:
 except ImportError:
     section_sheets = None  # type: ignore[assignment]
 
-PARSER = command.parser_of(command.commands())
+PARSER = commands.parser_of(commands.commands())
 KINDS = {"SECTION": section_of, "AREA": area_of}
 MIRRORED = {"SIDE": "LEFT", "LEFT": "SIDE"}
 OPPOSITE = {**MIRRORED, "FRONT": "REAR", "REAR": "FRONT", "TOP": "BOTTOM", "BOTTOM": "TOP"}
@@ -152,10 +155,10 @@ class SectionSheets(unittest.TestCase):
         self.addCleanup(folder.cleanup)
         self.file = pathlib.Path(folder.name) / "sheet.dxf"
 
-    def asked(self, *words: str) -> tuple[asking.Asked, str]:
+    def asked(self, *words: str) -> tuple[pipeline.Asked, str]:
         """What comes of the sheet, and what is said."""
         said: list[str] = []
-        return asking.ask(str(self.file), PARSER.parse_args(["solve", str(self.file), *words]), in_words(said)), "\n".join(said)
+        return pipeline.ask(str(self.file), PARSER.parse_args(["solve", str(self.file), *words]), in_words(said)), "\n".join(said)
 
     def drawn(self) -> tuple[sheet.Drawn, str]:
         """What the sheet is drawn as, and what is said."""
@@ -203,7 +206,7 @@ class SectionSheets(unittest.TestCase):
             maker.doc.saveas(self.file)
             with self.subTest(words):
                 arguments = PARSER.parse_args(["solve", str(self.file)])
-                asked = asking.ask(str(self.file), arguments, tell_none)
+                asked = pipeline.ask(str(self.file), arguments, tell_none)
                 self.assertEqual(solve.told(asked, 1), ["No solid has these views and sections: the search was whole."])
                 self.assertEqual(ruled_out.told(asked, arguments)[0], "The views alone have 1 solid: what the sections show rules it out.")
 

@@ -3,11 +3,11 @@ import random
 import unittest
 from fractions import Fraction
 
-from drafting.cells import Grid
-from drafting.drawing import decimals_of, lines_within, passed_over, written
-from drafting.panels import FRAMES, SOLID
-from drafting.section_keys import keys_of
-from drafting.section_layers import Section, named, sections_of, shown_in, shown_of_layer, strokes_in_all
+from drafting.dxf.drawing import decimals_of, lines_within, passed_over, written
+from drafting.projection.cells import Grid
+from drafting.projection.draw import FRAMES, SOLID
+from drafting.projection.section_keys import keys_of
+from drafting.projection.sections import Section, named, sections_of, shown_in, shown_of_layer, strokes_in_all
 
 from .cut_solids import Shown, area_of, planes_through, section_of, unit_cells
 from .made import random_cuts, random_solid

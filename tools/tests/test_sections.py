@@ -7,9 +7,9 @@ from typing import Any
 
 from ezdxf.enums import TextEntityAlignment
 
-from drafting import sheet
-from drafting.drawing import Stroke, lines_within, strokes_in
-from drafting.messages import Refused
+from drafting.core.messages import Refused
+from drafting.dxf.drawing import Stroke, lines_within, strokes_in
+from drafting.sheet import pipeline
 
 from . import sheets
 from .support import EXAMPLES, in_words, needs_module
@@ -170,7 +170,7 @@ class Sections(unittest.TestCase):
         with tempfile.TemporaryDirectory() as folder:
             file = pathlib.Path(folder) / "sheet.dxf"
             drawing.doc.saveas(file)
-            made = sheet.draw(str(file), arguments("sheet", file, *words), in_words(said))
+            made = pipeline.draw(str(file), arguments("sheet", file, *words), in_words(said))
         return strokes_in(lines_within(made.text.encode()), made.decimals), said
 
     def test_in_the_place_of_a_view(self) -> None:

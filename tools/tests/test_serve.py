@@ -15,10 +15,10 @@ import unittest.mock
 from collections import Counter
 from typing import Any
 
-from drafting import desk
-from drafting.answers import Answer, answer_of
-from drafting.follow import solids_event
-from drafting.messages import Refused
+from drafting.core.messages import Refused
+from drafting.live.search import solids_event
+from drafting.recon.answer import Answer, answer_of
+from drafting.serve import jobs
 
 from .made import file_of, voids
 from .serving import EDGE, Answered, Served, form, hesitant, part, slowed, takes_limits
@@ -221,12 +221,12 @@ class Serving(unittest.TestCase):
         list(served.events(job))
         self.assertEqual(served.ask("/", b"", "GET").status, 200)
         served.tell("/leave", job=job)
-        time.sleep(desk.GRACE + 2)
+        time.sleep(jobs.GRACE + 2)
         self.assertEqual(served.tell("/here", job=job), (200, CUBE.decode()))
         self.assertEqual(served.ask("/", b"", "GET").status, 200)
         self.assertEqual(served.tell("/here", job="").status, 204)
         served.tell("/leave", job=job)
-        served.until_idle(desk.GRACE + 15)
+        served.until_idle(jobs.GRACE + 15)
 
     def test_two_hundred_at_once(self) -> None:
         """Each is answered or refused in words; the server stays, and holds little."""
@@ -256,13 +256,13 @@ class Serving(unittest.TestCase):
         self.assertLess(most, 400)
         self.assertEqual(len(choices_in(self.served.follow(CUBE))), 3)
         # Pages that ask no more, and didn't say that they leave, keep their drawing for a while.
-        self.served.until_idle(desk.LIFE + 60)
+        self.served.until_idle(jobs.LIFE + 60)
 
 
 class Jobs(unittest.TestCase):
     def test_what_is_told_while_its_folder_is_removed_leaves_none(self) -> None:
         with tempfile.TemporaryDirectory() as session:
-            job = desk.Job(pathlib.Path(session))
+            job = jobs.Job(pathlib.Path(session))
             job.tell(b"{}\n")
             removed = []
 

@@ -10,9 +10,9 @@ import time
 import unittest
 import urllib.parse
 
-from drafting.door import STRANGERS
-from drafting.messages import Refused
-from drafting.session import PREFIX
+from drafting.core.messages import Refused
+from drafting.serve.connections import STRANGERS
+from drafting.serve.folder import PREFIX
 
 from .serving import EDGE, PATIENCE, Served, form
 from .support import TOOLS, needs_program

@@ -4,8 +4,8 @@ import os
 import re
 import time
 
-from drafting.answers import CUT, FAULT
-from drafting.drawing import Origin, written
+from drafting.dxf.drawing import Origin, written
+from drafting.recon.answer import CUT, FAULT
 
 from .made import lines_of_runs, runs, voids
 from .opened import IS_OVER, PATIENCE, Opened, button

@@ -4,9 +4,9 @@ import random
 import tempfile
 import unittest
 
-from drafting import program
-from drafting.drawing import VIEWS, entries_of, lines_of, views_of, written
-from drafting.panels import panels_of
+from drafting.dxf.drawing import VIEWS, entries_of, lines_of, views_of, written
+from drafting.projection.draw import panels_of
+from drafting.recon import process
 
 from .made import in_space
 from .support import EXAMPLES, draft, needs_program
@@ -91,7 +91,7 @@ class Settle(unittest.TestCase):
         for view in VIEWS:
             before, after = (views_of(lines_of(str(file)))[view] for file in (self.file, self.out))
             self.assertEqual(before, after)
-        self.assertEqual(program.run(program.find(), ["solve"], self.out.read_bytes()).status, 0)
+        self.assertEqual(process.run(process.find(), ["solve"], self.out.read_bytes()).status, 0)
 
     def test_one_view_tells_the_first_of_three(self) -> None:
         ended = draft("settle", EXAMPLES / "quartered_cube.dxf", "--answer", EXAMPLES / "quartered_cube.txt", "--meant", 1)

@@ -5,12 +5,16 @@ import tempfile
 import unittest
 from fractions import Fraction
 
-from drafting import asking, command, noted, program, sheet
-from drafting.answers import Solid, answer_of, turned_round
-from drafting.cells import grid_round
-from drafting.drawing import FURTHER, lines_within, views_of
-from drafting.messages import Refused
-from drafting.panels import Shown, further_of, shown_of
+from drafting.cli import commands
+from drafting.core import notes
+from drafting.core.messages import Refused
+from drafting.dxf.drawing import FURTHER, lines_within, views_of
+from drafting.projection.cells import grid_round
+from drafting.projection.draw import Shown, further_of, shown_of
+from drafting.recon import process
+from drafting.recon.answer import Solid, answer_of, turned_round
+from drafting.sheet import pipeline as sheet
+from drafting.solve import pipeline
 
 from .support import EXAMPLES, draft, in_words, needs_module, needs_program
 
@@ -19,7 +23,7 @@ try:
 except ImportError:
     sheets = None  # type: ignore[assignment]
 
-PARSER = command.parser_of(command.commands())
+PARSER = commands.parser_of(commands.commands())
 
 
 def further_of_clevis() -> dict[str, Shown]:
@@ -46,7 +50,7 @@ def plain_answer(text: str, factor: int | Fraction = 1) -> list[tuple[str, int |
 def solved(data: bytes, decimals: int = 0, most: int | None = None) -> str:
     """What recon writes of a drawing, with at most so many solids."""
     words = ["solve", *(["--decimals", decimals] if decimals else []), *(["--solids", most] if most else [])]
-    return program.run(program.find(), words, data, 600).text
+    return process.run(process.find(), words, data, 600).text
 
 
 @needs_module("ezdxf", "python3-ezdxf")
@@ -121,7 +125,7 @@ class LeftViews(unittest.TestCase):
             with self.subTest(angle), tempfile.TemporaryDirectory() as folder:
                 file = pathlib.Path(folder) / "left.dxf"
                 doc.saveas(file)
-                asked = asking.ask(str(file), arguments("solve", file), noted.tell_none)
+                asked = pipeline.ask(str(file), arguments("solve", file), notes.tell_none)
                 answer = asked.answer()
                 self.assertEqual([solid.volume for solid in answer.solids], [25])
                 corners = {corner for face in answer.solids[0].faces for loop in face.loops for corner in loop}
@@ -148,23 +152,23 @@ class BrokenFiles(unittest.TestCase):
                 file = pathlib.Path(folder) / f"{name}.dxf"
                 file.write_bytes(data)
                 with self.subTest(name), self.assertRaisesRegex(Refused, words):
-                    sheet.draw(str(file), arguments("sheet", file), noted.tell_none)
+                    sheet.draw(str(file), arguments("sheet", file), notes.tell_none)
 
     def test_a_file_that_is_too_long(self) -> None:
-        from drafting import reading
+        from drafting.dxf import reader
         with tempfile.TemporaryDirectory() as folder:
             file = pathlib.Path(folder) / "long.dxf"
             with open(file, "wb") as out:
-                out.truncate(reading.MOST_BYTES + 1)
+                out.truncate(reader.MOST_BYTES + 1)
             with self.assertRaisesRegex(Refused, "more than 67,108,864"):
-                sheet.draw(str(file), arguments("sheet", file), noted.tell_none)
+                sheet.draw(str(file), arguments("sheet", file), notes.tell_none)
 
     def test_a_drawing_of_more_than_16_mib_is_drawn_anew(self) -> None:
         text = (EXAMPLES / "clevis.dxf").read_bytes()
         with tempfile.TemporaryDirectory() as folder:
             file = pathlib.Path(folder) / "long.dxf"
             file.write_bytes((b"999\n" + b"-" * 999_999 + b"\n") * 17 + text)
-            drawn = sheet.draw(str(file), arguments("sheet", file), noted.tell_none)
+            drawn = sheet.draw(str(file), arguments("sheet", file), notes.tell_none)
         self.assertLess(len(drawn.text), 20_000)
 
     def test_blocks_that_stand_in_themselves_or_multiply(self) -> None:
@@ -180,13 +184,13 @@ class BrokenFiles(unittest.TestCase):
         with tempfile.TemporaryDirectory() as folder:
             file = pathlib.Path(folder) / "many.dxf"
             doc.saveas(file)
-            from drafting import reading
-            most, reading.MOST_ENTITIES = reading.MOST_ENTITIES, 20_000
+            from drafting.dxf import reader
+            most, reader.MOST_ENTITIES = reader.MOST_ENTITIES, 20_000
             try:
                 with self.assertRaisesRegex(Refused, "more than 20,000 entities"):
-                    sheet.draw(str(file), arguments("sheet", file), noted.tell_none)
+                    sheet.draw(str(file), arguments("sheet", file), notes.tell_none)
             finally:
-                reading.MOST_ENTITIES = most
+                reader.MOST_ENTITIES = most
 
 
 @needs_module("ezdxf", "python3-ezdxf")

@@ -4,8 +4,9 @@ import pathlib
 import tempfile
 import unittest
 
-from drafting import noted, sheet
-from drafting.messages import Refused
+from drafting.core import notes
+from drafting.core.messages import Refused
+from drafting.sheet import pipeline
 
 from .support import EXAMPLES, draft, in_words, needs_command, needs_module, needs_program
 from .tables import made
@@ -82,7 +83,7 @@ class Files(unittest.TestCase):
                 file = pathlib.Path(folder) / name
                 file.write_bytes(data)
                 with self.subTest(name), self.assertRaisesRegex(Refused, f"{name} {words}"):
-                    sheet.draw(str(file), arguments("sheet", file), noted.tell_none)
+                    pipeline.draw(str(file), arguments("sheet", file), notes.tell_none)
 
     @needs_program()
     def test_a_file_for_each_view(self) -> None:
@@ -99,7 +100,7 @@ class Files(unittest.TestCase):
         with tempfile.TemporaryDirectory() as folder:
             words = arguments("sheet", *in_files(folder, circle_in="TOP"))
             with self.assertRaisesRegex(Refused, r"in TOP a CIRCLE \w+ on layer 0, line [\d,]+ of top_view.dxf is no straight line"):
-                sheet.draw(None, words, noted.tell_none)
+                pipeline.draw(None, words, notes.tell_none)
 
     @needs_program()
     def test_a_fault_of_a_sheet_is_told_in_its_own_words(self) -> None:
@@ -133,7 +134,7 @@ class Files(unittest.TestCase):
     @unittest.skipUnless(LIBRARY.is_dir(), "apt-get install librecad-data")
     def test_sheets_of_librecad(self) -> None:
         """The views within each frame of LibreCAD's, and a symbol of its own library by itself."""
-        from drafting.reading import opened
+        from drafting.dxf.reader import opened
         part = sheets.views_in(EXAMPLES / "clevis.dxf")
         places = {view: (x + 20, y + 90) for view, (x, y) in sheets.places_of(part).items()}
         with tempfile.TemporaryDirectory() as folder:
@@ -146,12 +147,12 @@ class Files(unittest.TestCase):
                 doc.saveas(file)
                 with self.subTest(frame.name):
                     said: list[str] = []
-                    sheet.draw(str(file), arguments("sheet", file), in_words(said))
+                    pipeline.draw(str(file), arguments("sheet", file), in_words(said))
                     self.assertIn("a part 6 wide, 4 deep and 4 high", "\n".join(said))
                     self.assertIn("left out: a frame round all the rest", "\n".join(said))
         for symbol in sorted((LIBRARY / "block").glob("*.dxf"))[:5]:
             with self.subTest(symbol.name), self.assertRaisesRegex(Refused, "no way to take three|no straight line"):
-                sheet.draw(str(symbol), arguments("sheet", symbol), noted.tell_none)
+                pipeline.draw(str(symbol), arguments("sheet", symbol), notes.tell_none)
 
     @needs_program()
     @needs_command("parallel", "parallel")

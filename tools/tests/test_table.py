@@ -11,10 +11,12 @@ import tracemalloc
 import unittest
 from unittest import mock
 
-from drafting import passes, program, records
-from drafting.listed import Place, written
-from drafting.messages import Refused
-from drafting.rows import Row, Rows, key_of
+from drafting.core.messages import Refused
+from drafting.recon import process
+from drafting.report import record as records
+from drafting.table import passes
+from drafting.table.inputs import Place, written
+from drafting.table.rows import Row, Rows, key_of
 
 from .machines import needs_own_files
 from .support import EXAMPLES, TOOLS, draft, needs_command, needs_module, needs_program
@@ -59,7 +61,7 @@ class Tables(unittest.TestCase):
     def spited(self) -> pathlib.Path:
         """The program that does what a drawing says."""
         path = self.room / "spited"
-        path.write_text(SPITED.format(program=program.find(), folder=f"'{self.folder}'"))
+        path.write_text(SPITED.format(program=process.find(), folder=f"'{self.folder}'"))
         path.chmod(0o755)
         return path
 
@@ -201,8 +203,8 @@ class Progress(unittest.TestCase):
             with self.assertRaises(Refused):
                 Rows(state)
             rows.add(second, {**ROW, "solids": 2})
-            rows.add(cut, {**ROW, "status": program.CUT_NODES})
-            told = (ROW, {**ROW, "solids": 2}, {**ROW, "status": program.CUT_NODES})
+            rows.add(cut, {**ROW, "status": process.CUT_NODES})
+            told = (ROW, {**ROW, "solids": 2}, {**ROW, "status": process.CUT_NODES})
             self.assertEqual(tuple(map(rows.get, (first, second, cut))), told)
             rows.file.close()
             again = Rows(state)

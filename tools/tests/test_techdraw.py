@@ -6,17 +6,18 @@ import unittest
 from collections.abc import Callable
 from typing import Any
 
-from drafting import noted, sheet
-from drafting.drawing import Stroke, written
-from drafting.messages import Refused
+from drafting.core import notes
+from drafting.core.messages import Refused
+from drafting.dxf.drawing import Stroke, written
+from drafting.sheet import pipeline
 
 from .parts import Box, boxes_of, cells_of
 from .support import in_words, needs_module, needs_program
 from .test_sheet import arguments, plain_answer, solved
 
 try:
-    from drafting.cad import FreeCAD, Part, TechDraw
-    from drafting.shapes import part_of, views_of
+    from drafting.cad.freecad import FreeCAD, Part, TechDraw
+    from drafting.cad.project import part_of, views_of
     missing = ""
 except Refused:
     missing = "apt-get install freecad-python3"
@@ -106,7 +107,7 @@ class Pages(unittest.TestCase):
         with tempfile.TemporaryDirectory() as folder:
             whole, _ = exported(shape_of([("add", (0, 0, 0), (3, 2, 1)), ("add", (0, 1, 1), (1, 2, 2))]), pathlib.Path(folder))
             with self.assertRaisesRegex(Refused, "which tells no linetypes: .*--visible-only"):
-                sheet.draw(str(whole), arguments("sheet", whole), noted.tell_none)
+                pipeline.draw(str(whole), arguments("sheet", whole), notes.tell_none)
 
     def test_dimensions_and_a_section_of_a_page_at_half_scale(self) -> None:
         boxes: list[Box] = [("add", (0, 0, 0), (6, 4, 3)), ("cut", (2, 1, 1), (4, 3, 3)), ("cut", (5, 0, 2), (6, 4, 3))]
@@ -114,9 +115,9 @@ class Pages(unittest.TestCase):
             whole, visible = exported(shape_of(boxes), pathlib.Path(folder), 0.5, with_dimensions_and_a_section)
             words = ("--visible-only", visible)
             with self.assertRaisesRegex(Refused, "3 dimensions say 2 times the lengths as drawn.*say --scale 1:2"):
-                sheet.draw(str(whole), arguments("sheet", whole, *words), noted.tell_none)
+                pipeline.draw(str(whole), arguments("sheet", whole, *words), notes.tell_none)
             said: list[str] = []
-            made = sheet.draw(str(whole), arguments("sheet", whole, *words, "--scale", "1:2"), in_words(said))
+            made = pipeline.draw(str(whole), arguments("sheet", whole, *words, "--scale", "1:2"), in_words(said))
         self.assertIn("found: 3 dimensions say the lengths that they span, at the scale 1:2", said)
         self.assertIn("a section, group 4, since its lines are on the layer or in the block SectionA", "\n".join(said))
         self.assertEqual([volume for _, volume, _ in plain_answer(solved(made.text.encode()))], [len(cells_of(boxes)) * SIZE**3])
@@ -129,7 +130,7 @@ class Pages(unittest.TestCase):
             return False
         whole, visible = exported(shape, folder)
         said: list[str] = []
-        made = sheet.draw(str(whole), arguments("sheet", whole, "--visible-only", visible), in_words(said))
+        made = pipeline.draw(str(whole), arguments("sheet", whole, "--visible-only", visible), in_words(said))
         self.assertEqual(made.decimals, 0, said)
         self.assertEqual(plain_answer(solved(made.text.encode(), most=MOST_SOLIDS)), plain_answer(own), said)
         self.assertIn(len(cells_of(boxes)) * SIZE**3, [volume for _, volume, _ in plain_answer(own)])

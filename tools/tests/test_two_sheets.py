@@ -4,11 +4,16 @@ import re
 import tempfile
 import unittest
 
-from drafting import asking, noted, pairs, program, sheet, visible
-from drafting.answers import answer_of
-from drafting.drawing import VIEWS, lines_within, missing_in, strokes_in, views_of, written
-from drafting.messages import Refused, Usage
-from drafting.panels import grid_of, sheet_of
+from drafting.core import notes
+from drafting.core.messages import Refused, Usage
+from drafting.dxf.drawing import VIEWS, lines_within, missing_in, strokes_in, views_of, written
+from drafting.explain import visible_edges as visible
+from drafting.projection.draw import grid_of, sheet_of
+from drafting.recon import process
+from drafting.recon.answer import answer_of
+from drafting.sheet import two_views
+from drafting.sheet import pipeline as sheet
+from drafting.solve import pipeline
 
 from .support import EXAMPLES, draft, in_words, needs_command, needs_module, needs_program
 from .test_sheet import arguments
@@ -152,7 +157,7 @@ class Placed(InAFolder):
             sheet.draw(None, arguments("sheet", *words), in_words(said))
             self.assertIn(f"the names of files: {', '.join(sorted(it for it in VIEWS if it != missing))}; two views, without {missing}", "\n".join(said))
         with self.assertRaises(Usage):
-            sheet.draw(None, arguments("sheet", *words[:2]), noted.tell_none)
+            sheet.draw(None, arguments("sheet", *words[:2]), notes.tell_none)
 
 
 @needs_program()
@@ -182,13 +187,13 @@ class Asked(InAFolder):
         """Of each solid: the completed drawing has three views, and the program lists it, and no more than is said to be left."""
         for view in VIEWS:
             file, out = self.without(view), self.folder / "completed.dxf"
-            solids = answer_of(program.run(program.find(), ["solve", program.TWO_VIEWS], file.read_bytes()).text).solids
+            solids = answer_of(process.run(process.find(), ["solve", process.TWO_VIEWS], file.read_bytes()).text).solids
             for number in (1, len(solids)):
                 ended = draft("settle", file, "--meant", number, "--write", out)
                 self.assertEqual(ended.status, 0, ended.said)
                 self.assertIn("Checked: of the drawing with these lines the program lists", ended.out)
                 self.assertEqual(missing_in(views_of(lines_within(out.read_bytes()))), "")
-                listed = answer_of(program.run(program.find(), ["solve"], out.read_bytes()).text).solids
+                listed = answer_of(process.run(process.find(), ["solve"], out.read_bytes()).text).solids
                 self.assertIn(solids[number - 1].faces, [solid.faces for solid in listed])
 
     def test_other_commands(self) -> None:
@@ -199,7 +204,7 @@ class Asked(InAFolder):
         ended = draft("clean", file, 2)
         self.assertEqual(missing_in(views_of(lines_within(ended.out.encode()))), "", ended.said)
         # Solid 2 of the two views is the quartered cube itself, of 4 cells.
-        volumes = [solid.volume for solid in answer_of(program.run(program.find(), ["solve", program.TWO_VIEWS], file.read_bytes()).text).solids]
+        volumes = [solid.volume for solid in answer_of(process.run(process.find(), ["solve", process.TWO_VIEWS], file.read_bytes()).text).solids]
         for number, volume in enumerate(volumes, 1):
             ended = draft("stl", file, number)
             self.assertEqual(draft("triangles", volume, data=ended.out.encode()).status, 0, (number, ended.said))
@@ -222,13 +227,13 @@ class Asked(InAFolder):
         views: sheets.Views = {view: [(False, ((a, b), (c, d))) for a, b, c, d in lines] for view, lines in (("FRONT", FRONT), ("TOP", TOP))}
         file = self.saved(views, {"FRONT": (0, 0), "TOP": (0, 10)})
         with self.assertRaisesRegex(Refused, "recon lists in third angle 3 solids; in first angle 3 solids"):
-            asking.ask(str(file), arguments("solve", file), noted.tell_none)
-        with self.assertRaises(pairs.TwoReadings):
+            pipeline.ask(str(file), arguments("solve", file), notes.tell_none)
+        with self.assertRaises(two_views.TwoReadings):
             self.drawn(file)
         part = sheets.views_in(EXAMPLES / "clevis.dxf")
         file = self.saved({view: part[view] for view in ("FRONT", "TOP")}, sheets.places_of(part))
         said: list[str] = []
-        asked = asking.ask(str(file), arguments("solve", file), in_words(said))
+        asked = pipeline.ask(str(file), arguments("solve", file), in_words(said))
         self.assertIn("found: two views, in third angle, since in the other no solid has them", said)
         self.assertEqual([solid.volume for solid in asked.answer().solids], [41])
 

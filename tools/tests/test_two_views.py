@@ -8,12 +8,13 @@ import unittest
 from collections import Counter
 from collections.abc import Iterable
 
-from drafting import judge, program
-from drafting.answers import WHOLE, Answer, Solid, answer_of
-from drafting.blocks import blocks_in
-from drafting.cells import grid_round
-from drafting.drawing import VIEWS, lines_within, strokes_in, views_of, written
-from drafting.panels import BLANK, DASHED, FRAMES, SOLID, Cell, grid_of, sheet_of
+from drafting.dxf.drawing import VIEWS, lines_within, strokes_in, views_of, written
+from drafting.explain import judge
+from drafting.projection.cells import grid_round
+from drafting.projection.draw import BLANK, DASHED, FRAMES, SOLID, Cell, grid_of, sheet_of
+from drafting.recon import process
+from drafting.recon.answer import WHOLE, Answer, Solid, answer_of
+from drafting.recon.blocks import blocks_in
 
 from . import made
 from .made import drawn, random_cuts, random_solid, without
@@ -79,7 +80,7 @@ def every_set() -> Iterable[frozenset[Cell]]:
 # ---- what the program says
 
 def two_views(data: str, *words: object, command: str = "solve") -> str:
-    return program.run(program.find(), [command, program.TWO_VIEWS, *words], data.encode()).text
+    return process.run(process.find(), [command, process.TWO_VIEWS, *words], data.encode()).text
 
 
 def units_of(cells: Iterable[Cell]) -> list[list[int]]:
@@ -117,7 +118,7 @@ class Counted(unittest.TestCase):
         for view, head in (("FRONT", "whole 4 nodes 30 blocks 8"), ("TOP", "whole 4 nodes 25 blocks 8"), ("SIDE", "whole 4 nodes 28 blocks 8")):
             data = written({name: its for name, its in strokes.items() if name != view}, 0)
             self.assertEqual(two_views(data).splitlines()[0], head)
-            self.assertEqual(program.run(program.find(), ["solve"], data.encode()).text, f"fault F14 EmptyView view {view}\n")
+            self.assertEqual(process.run(process.find(), ["solve"], data.encode()).text, f"fault F14 EmptyView view {view}\n")
         answer = (EXAMPLES / "quartered_cube.txt").read_text()
         self.assertEqual(two_views(written(strokes, 0)), answer)
 
@@ -137,7 +138,7 @@ class Counted(unittest.TestCase):
             log = two_views(data, command="prove")
             self.assertTrue(head and log.startswith(f"log 1 blocks {head[3]}\n"), log[:40])
             self.assertEqual(two_views(data + log, command="check").splitlines()[0], f"yes {head and head[1]}")
-            self.assertEqual(program.run(program.find(), ["check"], (data + log).encode()).text, f"fault F14 EmptyView view {view}\n")
+            self.assertEqual(process.run(process.find(), ["check"], (data + log).encode()).text, f"fault F14 EmptyView view {view}\n")
 
 
 @needs_command("clingo", "gringo")
@@ -177,7 +178,7 @@ class Parts(unittest.TestCase):
 
     def parts(self, count: int) -> None:
         """Parts that FreeCAD draws are listed with each view left out, wherever the list is whole."""
-        from drafting.shapes import drawing_of
+        from drafting.cad.project import drawing_of
         whole = number = 0
         with tempfile.TemporaryDirectory() as folder:
             file = pathlib.Path(folder) / "random.part"

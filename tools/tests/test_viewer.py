@@ -4,12 +4,12 @@ import itertools
 import re
 import time
 
-from drafting import controls
-from drafting.answers import answer_of
-from drafting.cells import grid_round
-from drafting.drawing import Stroke, lines_within, strokes_in
-from drafting.panels import DASHED, shown_of
-from drafting.triangles import edges_of, triangles_of, volume_of
+from drafting.dxf.drawing import Stroke, lines_within, strokes_in
+from drafting.export.triangles import edges_of, triangles_of, volume_of
+from drafting.messages import controls
+from drafting.projection.cells import grid_round
+from drafting.projection.draw import DASHED, shown_of
+from drafting.recon.answer import answer_of
 
 from .made import file_of, voids
 from .opened import IS_OVER, PATIENCE, Opened, button

@@ -10,8 +10,9 @@ import time
 import unittest
 from collections.abc import Callable
 
-from drafting import batch, itself
-from drafting.warm import Warm
+from drafting.core import executable
+from drafting.table import worker
+from drafting.table.prefork import Warm
 
 from .support import EXAMPLES, needs_command
 from .tables import made
@@ -57,11 +58,11 @@ class Handed(unittest.TestCase):
         program.write_text(text)
         program.chmod(0o755)
         file = EXAMPLES / "unit_cube.dxf"
-        drawing = batch.Drawing(7, str(file), file.stat().st_size, file.stat().st_mtime_ns, file.read_bytes())
-        job = subprocess.Popen(itself.words(door or self.door, module="drafting.handed"), stdin=subprocess.PIPE, stdout=subprocess.PIPE,
+        drawing = worker.Drawing(7, str(file), file.stat().st_size, file.stat().st_mtime_ns, file.read_bytes())
+        job = subprocess.Popen(executable.words(door or self.door, module="drafting.table.handover"), stdin=subprocess.PIPE, stdout=subprocess.PIPE,
                                stderr=subprocess.PIPE, env={**os.environ, "PARALLEL_SSHLOGIN": machine})
         assert job.stdin
-        job.stdin.write(batch.text_of(["--program", str(program), "--memory", "0"], [drawing]))
+        job.stdin.write(worker.text_of(["--program", str(program), "--memory", "0"], [drawing]))
         job.stdin.close()
         return job
 
@@ -116,7 +117,7 @@ class Handed(unittest.TestCase):
                 self.until(lambda: not list((self.room / "temporary").iterdir()))
 
     def test_a_batch_that_is_not_whole(self) -> None:
-        job = subprocess.Popen(itself.words(self.door, module="drafting.handed"), stdin=subprocess.DEVNULL, stdout=subprocess.PIPE, stderr=subprocess.PIPE)
+        job = subprocess.Popen(executable.words(self.door, module="drafting.table.handover"), stdin=subprocess.DEVNULL, stdout=subprocess.PIPE, stderr=subprocess.PIPE)
         self.assertEqual((*job.communicate(timeout=PATIENCE), job.returncode), (b"", b"draft batch: the batch isn't whole\n", 1))
 
 

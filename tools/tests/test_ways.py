@@ -5,7 +5,7 @@ import tempfile
 import unittest
 from typing import Any
 
-from drafting.messages import Refused
+from drafting.core.messages import Refused
 
 from .opened import IS_OVER, PATIENCE, Opened, button
 from .serving import Served

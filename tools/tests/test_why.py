@@ -10,9 +10,10 @@ import unittest
 from collections.abc import Callable
 from typing import Any, NamedTuple
 
-from drafting import program, why
-from drafting.drawing import lines_of, views_of
-from drafting.panels import Grid, grid_of, sheet_of
+from drafting.dxf.drawing import lines_of, views_of
+from drafting.explain import why
+from drafting.projection.draw import Grid, grid_of, sheet_of
+from drafting.recon import process
 
 from .made import MISTAKES, Canon, Run, canon, drawn, file_of, painted, random_cuts, random_solid, runs
 from .support import EXAMPLES, draft, needs_command, needs_program
@@ -47,7 +48,7 @@ def spoiled(rng: random.Random, right: Grid, mistakes: list[Mistake]) -> Spoiled
 
 def has_no_solid(text: str) -> str | None:
     """What the program says of a drawing that no solid has; nothing of another one."""
-    head = program.run(program.find(), ["solve", "--solids", 1], text.encode()).text.partition("\n")[0]
+    head = process.run(process.find(), ["solve", "--solids", 1], text.encode()).text.partition("\n")[0]
     return head if head.startswith("whole 0 ") else None
 
 
@@ -57,7 +58,7 @@ def suggestions(text: str, head: str, limits: why.Limits = LIMITS) -> tuple[list
         file.flush()
         sheet = sheet_of(views_of(lines_of(file.name)), 0)
     with contextlib.redirect_stderr(io.StringIO()):
-        return why.looked_at(program.find(), sheet, head, limits)
+        return why.looked_at(process.find(), sheet, head, limits)
 
 
 def shown(one: why.Suggestion) -> Canon:
@@ -140,7 +141,7 @@ class Why(unittest.TestCase):
             out = pathlib.Path(folder) / "out.dxf"
             ended = draft("why", EXAMPLES / "quartered_cube_half_hidden.dxf", "--write", out, "--take", 2)
             self.assertEqual(ended.status, 0, ended.said)
-            run = program.run(program.find(), ["solve"], out.read_bytes())
+            run = process.run(process.find(), ["solve"], out.read_bytes())
             self.assertTrue(run.text.startswith("whole 3 "))
             self.assertEqual(draft("why", out).out, "Nothing is wrong: 3 solids have these views.\n")
             ended = draft("why", EXAMPLES / "quartered_cube_half_hidden.dxf", "--write", out, "--take", 3)

@@ -12,14 +12,14 @@ import unittest
 from fractions import Fraction
 from typing import Any
 
-from drafting import program
-from drafting.drawing import Origin, lines_of, strokes_in, written
-from drafting.messages import Refused
+from drafting.core.messages import Refused
+from drafting.dxf.drawing import Origin, lines_of, strokes_in, written
+from drafting.recon import process
 
 from .support import EXAMPLES, TOOLS, needs_command, needs_long, needs_module, needs_program
 
 try:
-    from drafting.cad import Part
+    from drafting.cad.freecad import Part
     from . import documents
     from .documents import Document, box, corner, quartered, without_a_corner
     missing = ""
@@ -106,7 +106,7 @@ def environment(folder: str) -> dict[str, str]:
     (home / ".config" / "FreeCAD" / "user.cfg").write_text(SETTINGS)
     temporary.mkdir()
     kept = {name: value for name, value in os.environ.items() if not name.startswith(("XDG_", "PYTHON"))}
-    return {**kept, "HOME": str(home), "TMPDIR": str(temporary), "RECON": str(program.find()), "RECON_TRIED": folder,
+    return {**kept, "HOME": str(home), "TMPDIR": str(temporary), "RECON": str(process.find()), "RECON_TRIED": folder,
             "QT_QPA_PLATFORM": "offscreen", "QTWEBENGINE_DISABLE_SANDBOX": "1"}
 
 

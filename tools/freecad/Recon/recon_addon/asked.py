@@ -14,7 +14,7 @@ from fractions import Fraction
 from typing import TYPE_CHECKING, Any
 
 if TYPE_CHECKING:
-    from drafting.asking import Asked
+    from drafting.solve.pipeline import Asked
 
 
 def tell(**event: object) -> None:
@@ -31,17 +31,17 @@ class Asking:
     """A drawing that is asked about, and what comes of it."""
 
     def __init__(self, path: str, folder: pathlib.Path, words: Sequence[str]) -> None:
-        from drafting import asking
+        from drafting.solve import pipeline
         parser = argparse.ArgumentParser()
-        asking.add_arguments(parser)
+        pipeline.add_arguments(parser)
         self.path, self.folder, self.arguments = path, folder, parser.parse_args(words)
         # The number of the document's own part among the solids, once it is known.
         self.part = 0
 
     def events(self) -> Iterator[dict[str, object]]:
-        from drafting import asking
+        from drafting.solve import pipeline
         yield {"stage": "searched"}
-        asked = asking.ask(self.path, self.arguments, lambda note: tell(told=str(note)))
+        asked = pipeline.ask(self.path, self.arguments, lambda note: tell(told=str(note)))
         (self.folder / "drawing.dxf").write_bytes(asked.data)
         (self.folder / "answer.txt").write_text(asked.run.text)
         count = self.count_of(asked)
@@ -54,8 +54,8 @@ class Asking:
 
     def count_of(self, asked: "Asked") -> int:
         """How many solids came; refused where the drawing has a fault."""
-        from drafting import answers, faults
-        from drafting.messages import Refused
+        from drafting.recon import answer as answers, faults
+        from drafting.core.messages import Refused
         answer = asked.answer(0)
         if answers.FAULT.fullmatch(answer.head):
             raise Refused("; ".join(faults.told(answer.head, asked.lines)))
@@ -63,7 +63,7 @@ class Asking:
 
     def verdict(self, asked: "Asked", count: int) -> dict[str, object]:
         """What the program says: how many solids there are, whether these are all, and of which kind they are."""
-        from drafting.answers import WHOLE
+        from drafting.recon.answer import WHOLE
         head = asked.run.text.partition("\n")[0]
         first = next(iter(asked.rounds.kept), asked.rounds.first) if asked.rounds else None
         is_whole = first.is_whole if first else not asked.rounds and bool(WHOLE.fullmatch(head))
@@ -77,20 +77,20 @@ class Asking:
 
     def millimetres(self, asked: "Asked") -> float:
         """How many millimetres a unit of the drawing has; where it tells none, one."""
-        from drafting.drawing import MILLIMETRES
+        from drafting.dxf.drawing import MILLIMETRES
         if not asked.origin.unit:
             tell(told="found: no unit of length is told: millimetres are taken")
         return float(MILLIMETRES.get(asked.origin.unit, Fraction(1)))
 
     def shapes(self, asked: "Asked") -> Iterator[dict[str, Any]]:
         """The shapes of all solids where they stand, and of a page what each has more and less than the part."""
-        from drafting import in_place
+        from drafting.cad import in_document
         if asked.page:
-            for it in in_place.stood(asked):
+            for it in in_document.stood(asked):
                 yield {"shape": it.shape, "more": it.more, "less": it.less, "is_part": it.is_part}
             return
         times = self.millimetres(asked)
-        for shape in in_place.shapes_of(asked):
+        for shape in in_document.shapes_of(asked):
             yield {"shape": shape.scaled(times)}
 
     def solids(self, asked: "Asked", count: int) -> Iterator[dict[str, object]]:
@@ -111,15 +111,15 @@ class Asking:
 
     def settled(self, asked: "Asked") -> dict[str, object]:
         """The views that leave the part alone, or as few as views can, by their directions, and the sections that would settle it."""
-        from drafting import means, settle
-        from drafting.cells import grid_round
+        from drafting.explain import distinguishing, settle
+        from drafting.projection.cells import grid_round
         solids = settle.of_first_reading(asked) if asked.rounds else asked.answer().solids
         if not 1 < len(solids) <= settle.MOST_SETTLED or asked.rounds and asked.rounds.elsewhere:
             return {"views": [], "left": len(asked.kept) if asked.rounds else len(solids), "words": ""}
         if not asked.page or not 0 < self.part <= len(solids):
             return {"views": [], "left": len(solids), "words": settle.settled_by(asked.answer()._replace(solids=solids), asked.sheet())}
         cells = grid_round(solids)
-        views, sections = means.all_means(means.Solids(cells, [cells.cells(it) for it in solids]), asked.sheet())
+        views, sections = distinguishing.all_means(distinguishing.Solids(cells, [cells.cells(it) for it in solids]), asked.sheet())
         chosen, left = settle.views_for(views, self.part - 1)
         words = [it.name for it in settle.sections_for(sections, self.part - 1, left)] if len(left) > 1 else []
         return {"views": [self.way(asked, it.name) for it in chosen if it.sizes[0] < len(solids) or len(left) == 1], "left": len(left),
@@ -127,8 +127,8 @@ class Asking:
 
     def way(self, asked: "Asked", view: str) -> dict[str, object]:
         """A view by the direction towards its viewer and by what is to its right, in the document."""
-        from drafting.panels import FRAMES
-        from drafting.techdraw import TOWARDS
+        from drafting.projection.draw import FRAMES
+        from drafting.cad.techdraw import TOWARDS
         assert asked.page
         axis, sign = TOWARDS[view]
         frame, own = asked.page.frame, FRAMES[view]
@@ -137,7 +137,7 @@ class Asking:
 
     def left_open(self, asked: "Asked") -> Iterator[dict[str, object]]:
         """What the page as it is leaves open, where it lacks hidden lines."""
-        from drafting import left_open
+        from drafting.explain import hidden_unknown as left_open
         if asked.page and asked.page.lacking:
             yield {"stage": "open"}
             yield {"open": left_open.told(asked, self.arguments)[1:]}
@@ -145,7 +145,7 @@ class Asking:
 
 def main(tools: str, path: str, folder: str, *words: str) -> int:
     sys.path.insert(0, tools)
-    from drafting.messages import Refused
+    from drafting.core.messages import Refused
     try:
         for event in Asking(path, pathlib.Path(folder), words).events():
             tell(**event)

@@ -257,8 +257,9 @@ class PagePanel(Panel):
     def ask(self, child: Child) -> None:
         """Takes the page here, since links to other documents are known here alone; it is drawn by the other process."""
         settings.with_tools()
-        from drafting import anew, noted, techdraw
-        from drafting.messages import Refused
+        from drafting.cad import redraw, techdraw
+        from drafting.core import notes as noted
+        from drafting.core.messages import Refused
         self.forget()
         self.ways, self.part, notes = [], 0, list[noted.Note]()
         try:
@@ -268,7 +269,7 @@ class PagePanel(Panel):
                 self.button(translate("Recon", "Views of {}", label), functools.partial(self.choose, label))
             raise
         self.views = {name: view.of for name, view in views.items()}
-        child.begin(anew.saved(page, notes, child.folder), [])
+        child.begin(redraw.saved(page, notes, child.folder), [])
 
     def choose(self, label: str) -> None:
         """Asks about one of several parts."""

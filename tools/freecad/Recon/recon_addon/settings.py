@@ -25,7 +25,7 @@ def tools() -> str:
     """The folder in which the modules of `draft` are."""
     said = PREFERENCES.GetString("Tools", "")
     for folder in [pathlib.Path(said)] if said else [BESIDE, PACKAGED]:
-        if (folder / "drafting" / "command.py").is_file():
+        if (folder / "drafting" / "cli" / "commands.py").is_file():
             return str(folder)
     raise Lacking(translate("Recon", "The modules of draft aren't in {}: name their folder in the preferences, Recon.", said or PACKAGED))
 

@@ -1,0 +1,145 @@
+"""What comes of the solids of a squared-off drawing once they are rounded back: which are kept, each by itself without a doubt; by FreeCAD
+each is made, drawn again and compared with the sheet, and without FreeCAD that is told."""
+import itertools
+import math
+from collections.abc import Sequence
+from fractions import Fraction
+from typing import Any, NamedTuple
+
+from ..core.messages import Progress, Refused, many
+from ..recon.answer import Answer, Solid
+from . import holes
+from .cones import Fitted, choices, volume_by_pi
+from .features import Given
+from .restore import Drawn, volume_of, ways_of
+
+# Of how many solids of a squared drawing FreeCAD makes shapes.
+MOST = 200
+LACKING = "not compared with the sheet, since FreeCAD isn't there: apt-get install --no-install-recommends freecad-python3"
+
+
+class Kept(NamedTuple):
+    """A solid that is kept: its number in the program's list, its volume as a number and a number of pi, in the drawing's unit, where the
+    formula holds, and its shape, where FreeCAD is there."""
+
+    number: int
+    solid: Solid
+    volume: tuple[Fraction, Fraction] | None
+    shape: Any
+    doubt: str = ""
+
+    def size(self) -> float:
+        """The volume, as near as a number tells it."""
+        return float(self.volume[0]) + float(self.volume[1]) * math.pi if self.volume else float(self.shape.Volume)
+
+
+class Rounds(NamedTuple):
+    """A way to round a solid back: the layers of its rounds, its cones, and whether the volume's formula holds for it."""
+
+    drawn: Sequence[Drawn]
+    cones: Sequence[Fitted]
+    by_formula: bool
+
+
+class Outcome(NamedTuple):
+    """What came of a squared drawing's solids: how many it has, how many can't be rounded back, why others aren't kept, and those that
+    are; whether they were compared with the sheet; how many weren't looked at; and what was squared off, in words."""
+
+    listed: int
+    lost: int
+    others: list[str]
+    kept: list[Kept]
+    is_compared: bool
+    unseen: int = 0
+    kinds: str = "rounds"
+
+    def told(self) -> list[str]:
+        """In words, beside the solids that are kept."""
+        squared = f"The drawing with its {self.kinds} squared off has {many(self.listed, 'solid')}"
+        left = [f"{self.lost} can't be rounded back"] if self.lost else []
+        left += [f"{len(self.others)} {'looks' if len(self.others) == 1 else 'look'} otherwise than the sheet once rounded back"] if self.others else []
+        rows = [squared + (f", of which {' and '.join(left)}." if left else ".")]
+        rows += [f"  {text}" for text in self.others[:3]]
+        if self.unseen:
+            rows.append(f"{many(self.unseen, 'solid')} of the squared drawing {'was' if self.unseen == 1 else 'were'} not looked at (more than {MOST}).")
+        return [*rows, *(["Each that is told was drawn again by FreeCAD and compared with the sheet: the same."] if self.is_compared and self.kept else []),
+                *([LACKING[0].upper() + LACKING[1:] + "."] if not self.is_compared else [])]
+
+
+def tools() -> tuple[Any, Any] | None:
+    """What makes shapes and compares them, where FreeCAD is there."""
+    try:
+        from ..cad import rounded_shapes as bodies, compare as compared
+    except Refused:
+        return None
+    return bodies, compared
+
+
+def outcome(answer: Answer, given: Given, decimals: int) -> Outcome:
+    """What comes of an answer's solids."""
+    unit, with_shapes = 10**decimals, tools()
+    result = Outcome(answer.listed, 0, [], [], with_shapes is not None, max(0, answer.listed - MOST), given.kinds)
+    for number, solid in enumerate(answer.solids[:MOST], 1):
+        Progress.show(f"solid {number:,} of {len(answer.solids):,} is rounded back")
+        some, why = rounded_back(number, solid, given, unit, with_shapes)
+        result.kept.extend(some)
+        if not some and why:
+            result.others.append(f"solid {number}: {why}")
+        elif not some:
+            result = result._replace(lost=result.lost + 1)
+    Progress.clear()
+    return by_tangent_edges(result)
+
+
+def by_tangent_edges(result: Outcome) -> Outcome:
+    """Where some solids have the tangent edges that the sheet draws, those alone."""
+    if all(one.doubt for one in result.kept):
+        return result
+    others = [f"solid {one.number}: {one.doubt}" for one in result.kept if one.doubt]
+    return result._replace(kept=[one for one in result.kept if not one.doubt], others=[*result.others, *others])
+
+
+def rounded_back(number: int, solid: Solid, given: Given, unit: int, with_shapes: tuple[Any, Any] | None) -> tuple[list[Kept], str]:
+    """A solid rounded back, in all ways for which the formula holds, else in the first other one; or why it isn't kept; nothing where it
+    can't be rounded back at all."""
+    some: list[Kept] = []
+    why = ""
+    for way, by_formula in ways_of(solid, given, unit):
+        if some and not by_formula:
+            break
+        if with_shapes is None and not (by_formula and not given.is_crossed):
+            why = why or f"{'crossed by holes' if given.is_crossed else 'cut by walls'}, which needs FreeCAD"
+            continue
+        every = choices(solid, way, given, unit)
+        why = why or ("" if every else "its holes and bosses don't have the places of all cones")
+        for chosen in every:
+            volume = None
+            if by_formula and not given.is_crossed:
+                plain, by_pi = volume_of(solid, way, unit, given.moved)
+                volume = plain, by_pi + volume_by_pi(chosen, unit, given.moved) + holes.volume_by_pi(solid, way, given, unit)
+            try:
+                shape, doubt = shape_and_doubt(solid, Rounds(way, chosen, by_formula), given, unit, with_shapes) if with_shapes else (None, "")
+                some.append(Kept(number, solid, volume, shape, doubt))
+            except Refused as refusal:
+                why = why or str(refusal)
+    return some, why
+
+
+def shape_and_doubt(solid: Solid, its: Rounds, given: Given, unit: int, with_shapes: tuple[Any, Any]) -> tuple[Any, str]:
+    """The shape, and what of its smooth edges isn't as on the sheet; refused where its views aren't the sheet's."""
+    bodies, compared = with_shapes
+    if bare := list(itertools.islice(compared.unexplained(given, its.drawn, unit), 1)):
+        raise Refused(bare[0])
+    try:
+        shape = bodies.rounded_shape(solid, its.drawn, its.cones, given, unit, its.by_formula)
+        large = compared.enlarged(shape, given)
+        differing = list(itertools.islice(compared.differences(*large), 1))
+        other, lacking = compared.smooth_doubts(*large) if given.smooth and not differing else (0, 0)
+    except Refused:
+        raise
+    except Exception as failure:  # whatever OpenCASCADE stumbles on
+        raise Refused(f"FreeCAD can't make or draw it: {' '.join(str(failure).split())[:80] or type(failure).__name__}") from None
+    if differing:
+        raise Refused(differing[0])
+    words = [f"{many(other, 'line')} left out as tangent edges it has otherwise"] if other else []
+    return shape, "; ".join([*words, *([f"{many(lacking, 'tangent edge')} of it the sheet doesn't draw"] if lacking else [])])
