@@ -11,7 +11,7 @@ from ..core.messages import Refused
 from ..dxf.drawing import entries_of, number, pairs_of, points_of
 from ..projection.draw import FRAMES, Cell, Sheet, Shown, strokes_shown
 from ..projection.sections import Section, least_of, shown_of_layer
-from ..sheet.groups import meet
+from ..geometry.components import meet
 
 # How far from one another views are drawn, in the drawing's unit, and how many letters high and wide a section is, about.
 GAP, LETTERS = 10, 16

@@ -9,7 +9,8 @@ from ..dxf.drawing import Place
 from ..dxf.reader import Arc
 from ..projection.draw import FRAMES
 from ..sections.cutting_planes import Plane
-from ..sheet.groups import Group, meet
+from ..geometry.components import meet
+from ..sheet.groups import Group
 from .rounds import OF_ONE, Round, arc_box, rounds_of
 
 # The rounds of a sheet, as drawn, by the views that show them.

@@ -22,7 +22,8 @@ from ..sections import layers as section_views
 from ..sections.cutting_plane_marks import Mark
 from ..sections.recognize import are_told
 from ..sheet import pipeline as sheet
-from ..sheet.groups import Group, frames, holds, meet, merged, pieces_of
+from ..geometry.components import meet
+from ..sheet.groups import Group, frames, holds, merged, pieces_of
 from ..sheet.placement import Placed
 from ..sheet.second_export import arcs_hidden_by, twice_hidden
 from ..sheet.unreadable import refuse_oblique, refuse_unread

@@ -15,7 +15,8 @@ from ..core.messages import Refused, many
 from ..dxf.reader import HATCHES, Box, Kept, Sheet, Source, box_of
 from ..geometry.segments import Run
 from ..messages.controls import option
-from ..sheet.groups import MOST_GROUPS, Group, holds, meet, merged, pieces_of
+from ..geometry.components import meet
+from ..sheet.groups import MOST_GROUPS, Group, holds, merged, pieces_of
 from .cutting_plane_marks import Mark, Word, corners_of, distance, is_head, words_of
 
 # What says section, in the languages of linetypes and layers; not where a line or a plane is meant, or a cut-out.

@@ -1,10 +1,10 @@
 """Groups of lines and curves on a sheet that touch, and the frames and title blocks among them."""
-from collections import defaultdict
 from collections.abc import Iterable, Sequence
 from typing import NamedTuple
 
 from ..core.messages import many
 from ..dxf.reader import Box, Source, Unread
+from ..geometry.components import meet, together
 from ..geometry.segments import Run
 
 MOST_GROUPS = 2000
@@ -53,36 +53,9 @@ def united(groups: Iterable[Group]) -> Group:
     return group_of([run for group in its for run in group.runs], [curve for group in its for curve in group.curves])
 
 
-def meet(a: Box, b: Box, tolerance: float) -> bool:
-    return a[0] <= b[2] + tolerance and b[0] <= a[2] + tolerance and a[1] <= b[3] + tolerance and b[1] <= a[3] + tolerance
-
-
 def holds(outer: Box, inner: Box, tolerance: float) -> bool:
     low = outer[0] - tolerance <= inner[0] and outer[1] - tolerance <= inner[1]
     return low and inner[2] <= outer[2] + tolerance and inner[3] <= outer[3] + tolerance
-
-
-def together(boxes: Sequence[Box], tolerance: float) -> list[list[int]]:
-    """The numbers of boxes in groups, joined by chains of boxes that meet."""
-    parents = list(range(len(boxes)))
-
-    def root(at: int) -> int:
-        while parents[at] != at:
-            parents[at] = parents[parents[at]]
-            at = parents[at]
-        return at
-
-    active: list[int] = []
-    for at in sorted(range(len(boxes)), key=lambda it: boxes[it][0]):
-        active = [it for it in active if boxes[it][2] >= boxes[at][0] - tolerance]
-        for other in active:
-            if meet(boxes[at], boxes[other], tolerance):
-                parents[root(at)] = root(other)
-        active.append(at)
-    groups = defaultdict(list)
-    for at in range(len(boxes)):
-        groups[root(at)].append(at)
-    return list(groups.values())
 
 
 def pieces_of(runs: Sequence[Run], tolerance: float, curves: Sequence[Unread] = ()) -> list[Group]:

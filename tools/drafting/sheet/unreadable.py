@@ -8,7 +8,8 @@ from ..core.notes import Things
 from ..dxf.drawing import VIEWS, Place
 from ..dxf.reader import Box, Edge, Unread, thing_of, where
 from ..messages.controls import option
-from .groups import Group, meet
+from ..geometry.components import meet
+from .groups import Group
 from .placement import Placed, main_named
 
 # How far off a line may be noise, as a part of its view.
