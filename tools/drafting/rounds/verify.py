@@ -7,6 +7,7 @@ from fractions import Fraction
 from typing import Any, NamedTuple
 
 from ..core.messages import Progress, Refused, many
+from ..core.verdict import Reason
 from ..recon.answer import Answer, Solid
 from . import holes
 from .cones import Fitted, choices, volume_by_pi
@@ -43,7 +44,8 @@ class Rounds(NamedTuple):
 
 class Outcome(NamedTuple):
     """What came of a squared drawing's solids: how many it has, how many can't be rounded back, why others aren't kept, and those that
-    are; whether they were compared with the sheet; how many weren't looked at; and what was squared off, in words."""
+    are; whether they were compared with the sheet; how many weren't looked at; what was squared off, in words; and what was not tried or may be
+    missing, so that the verdict isn't decided."""
 
     listed: int
     lost: int
@@ -52,6 +54,7 @@ class Outcome(NamedTuple):
     is_compared: bool
     unseen: int = 0
     kinds: str = "rounds"
+    reasons: tuple[Reason, ...] = ()
 
     def told(self) -> list[str]:
         """In words, beside the solids that are kept."""

@@ -20,6 +20,7 @@ from ..core import page as documents, notes as noted
 from ..core.advice import Advisable
 from ..core.messages import Refused, many, say, write_result
 from ..core.notes import Note, Tell
+from ..core.verdict import Reason
 from ..dxf.drawing import MILLIMETRES, VIEWS, Origin, Stroke, places_of, written
 from ..dxf.reader import Edge, Sheet, Unread, read_sheet, where
 from ..dxf.styles import Style, choice_of
@@ -48,8 +49,8 @@ MARGIN = 10
 class Drawn(NamedTuple):
     """A drawing of three layers, made of a sheet: its text, how many decimals it has, how it stands for the sheet, and the way back. Of a
     sheet with rounds also what is told of this reading of it, the drawings of the further ones, or why one has none; and why it is refused
-    unless some solid of a reading that changes more than to leave lines out, and isn't plain, is kept. Of a document of FreeCAD, its page; and
-    whether it has layers of the sheet's sections."""
+    unless some solid of a reading that changes more than to leave lines out, and isn't plain, is kept. Of a document of FreeCAD, its page;
+    whether it has layers of the sheet's sections; and what this reading of the sheet leaves open, so that the verdict isn't decided."""
 
     text: str
     decimals: int
@@ -61,6 +62,7 @@ class Drawn(NamedTuple):
     is_plain: bool = True
     page: documents.Page | None = None
     has_sections: bool = False
+    reasons: tuple[Reason, ...] = ()
 
 
 class Alike(NamedTuple):
