@@ -11,6 +11,7 @@ from typing import NoReturn
 from .. import __version__
 from ..core import provenance
 from ..core.messages import Progress, Refused, Usage, say
+from ..recon import shipped
 from ..sheet.view_files import with_standard_input
 
 # The commands, in the order in which the help tells them, and the module of each, with NAME, HELP, add_arguments(parser) and
@@ -44,11 +45,13 @@ def commands(word: str = "") -> list[ModuleType]:
 
 
 class Versions(argparse.Action):
-    """Tells the version of this program and of what it stands on, which is looked for then alone: that takes a while."""
+    """Prints the version of this program and of what it runs on, and which program of recon it uses. These are looked for then alone, since
+    that takes a while."""
 
     def __call__(self, parser: argparse.ArgumentParser, *_: object) -> NoReturn:
         ezdxf = provenance.version_of_ezdxf()
         print(f"draft {__version__} (Python {platform.python_version()}, {f'ezdxf {ezdxf}' if ezdxf else 'no ezdxf'})")
+        print(shipped.described())
         parser.exit()
 
 

@@ -13,6 +13,8 @@ from ..messages.controls import option
 
 TOP = pathlib.Path(__file__).resolve().parents[3]
 BUILT = TOP / "crates" / "recon" / "out" / "recon"
+# The proved program that stands in the repository (`shipped.py`).
+SHIPPED = TOP / "bin" / "recon"
 # How it is built, and what that costs.
 BUILD = "(cd crates/recon && rt run -- solve < ../../examples/unit_cube.dxf) builds it, once it has proved everything, for an hour or two"
 # The most seconds that one run may take, unless the caller says otherwise.
@@ -50,18 +52,20 @@ class Run(NamedTuple):
 
 def add_arguments(parser: argparse.ArgumentParser) -> None:
     """The options that say which program is run, and for how long."""
-    parser.add_argument("--program", metavar="PATH", help="the program (else $RECON, this repository's own, recon on the path)")
+    parser.add_argument("--program", metavar="PATH", help="recon's program (else $RECON, the one built here if it is newer than bin/recon, bin/recon, recon on the path)")
     parser.add_argument("--seconds", type=float, default=SECONDS, help="the most seconds that a run of it may take")
 
 
 def find(named: str | None = None) -> pathlib.Path:
-    """The program: the one that is named, else the one that RECON names, else where the gate leaves it, else the one on the path."""
+    """The program: the one that is named, else the one that RECON names, else the one that was built here if it is newer than the
+    repository's, else the repository's, else the one on the path."""
     for path, who in ((named, option("program")), (os.environ.get("RECON"), "RECON")):
         if path and not is_program(path):
             raise NoProgram(f"{path}, which {who} names, is no program that may be run")
         if path:
             return pathlib.Path(path).resolve()
-    found = str(BUILT) if is_program(BUILT) else shutil.which("recon")
+    own = sorted((path for path in (SHIPPED, BUILT) if is_program(path)), key=lambda path: path.stat().st_mtime_ns)
+    found = str(own[-1]) if own else shutil.which("recon")
     if not found:
         raise NoProgram(f"recon isn't there: {ways()}")
     return pathlib.Path(found).resolve()
