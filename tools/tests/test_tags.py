@@ -6,7 +6,7 @@ import tempfile
 import unittest
 from typing import Any
 
-from drafting.dxf import reader, tags
+from drafting.dxf import encoding, reader, tags
 
 from . import made, sheets
 from .support import EXAMPLES, needs_module
@@ -70,7 +70,7 @@ class Tags(unittest.TestCase):
                 of_lines(text)
 
     def test_documents_are_those_of_ezdxf_alone(self) -> None:
-        """By the bytes of a file as it is, with other ends of lines, and with a letter that isn't of ASCII, of which the encoding is to be found."""
+        """By the text of a file as it is, with other ends of lines, and with a letter that isn't of ASCII, in the code page of Windows."""
         ezdxf = reader.library()
         plain = (EXAMPLES / "bracket.dxf").read_bytes()
         with tempfile.TemporaryDirectory() as room:
@@ -78,7 +78,7 @@ class Tags(unittest.TestCase):
             for data in (plain, plain.replace(b"\r", b"").replace(b"\n", b"\r\n"), plain.replace(b"\r", b"").replace(b"\n", b"\r"),
                          plain.replace(b"\nENTITIES", b"\nENTITIES\n  0\nPOINT\n  8\n\xfc\n 10\n0\n 20\n0", 1)):
                 file.write_bytes(data)
-                mine, its = reader.loaded(ezdxf, str(file), data), ezdxf.readfile(file)
+                mine, its = reader.loaded(ezdxf, encoding.decode(data)), ezdxf.readfile(file)
                 self.assertEqual(*([(entity.dxftype(), entity.dxf.all_existing_dxf_attribs()) for entity in document.entitydb.values()]
                                    for document in (mine, its)))
                 self.assertEqual((mine.dxfversion, mine.encoding), (its.dxfversion, its.encoding))

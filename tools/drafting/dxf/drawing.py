@@ -14,6 +14,8 @@ from decimal import Decimal
 from fractions import Fraction
 from typing import NamedTuple
 
+from .encoding import decode
+
 VIEWS = ("FRONT", "TOP", "SIDE")
 # The views from the other sides, each of which a drawing may have too.
 FURTHER = ("LEFT", "REAR", "BOTTOM")
@@ -90,7 +92,7 @@ def lines_within(data: bytes) -> list[str]:
 
 
 def lines_in(data: bytes) -> list[str]:
-    text = data.decode("utf-8-sig", errors="replace").removesuffix("\n").replace("\r\n", "\n").removesuffix("\r")
+    text = decode(data).removesuffix("\n").replace("\r\n", "\n").removesuffix("\r")
     return [line.strip(" \t") for line in text.split("\n")]
 
 

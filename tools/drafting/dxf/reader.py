@@ -10,7 +10,7 @@ from typing import TYPE_CHECKING, Any, NamedTuple
 
 from ..core.messages import Refused, many
 from ..core.notes import Thing, Things
-from . import curves, file_types, tags
+from . import curves, encoding, file_types, tags
 from .crosscheck import BINARY, Unreadable, check_lines, line_of_file, version_needed
 from .drawing import UNITS, Place
 from .styles import CUTTING, HATCHED, Choice, Look, Style, style_of
@@ -178,17 +178,19 @@ def opened(path: str) -> tuple[Any, str]:
     """The document of a file, and what had to be mended in it."""
     ezdxf = library()
     data = dxf_of(path)
-    version = None if data.startswith(BINARY) else version_needed(data)
+    is_binary = data.startswith(BINARY)
+    version = None if is_binary else version_needed(data)
+    text = "" if is_binary else encoding.decode(version or data)
     if version is None:
         try:
-            return loaded(ezdxf, path, data), ""
+            return (ezdxf.readfile(path, errors="replace") if is_binary else loaded(ezdxf, text)), ""
         except OSError:
             raise
         except Exception:  # ezdxf's own errors, and whatever a broken file makes it stumble on
             pass
     from ezdxf import recover  # which few files need
     try:
-        document, auditor = recover.readfile(path) if version is None else recover.read(io.BytesIO(version))
+        document, auditor = recover.read(io.BytesIO(data if is_binary else encoding.escaped(text)), errors="replace")
     except Exception as failure:
         told = " ".join(str(failure).split())[:200] or type(failure).__name__
         raise Unreadable(f"ezdxf can't read {pathlib.Path(path).name}: {told}") from None
@@ -196,12 +198,12 @@ def opened(path: str) -> tuple[Any, str]:
     return document, f"the file is broken: ezdxf mended {many(mended, 'fault')}" if mended and version is None else ""
 
 
-def loaded(ezdxf: Any, path: str, data: bytes) -> Any:
-    """The document of a file that has these bytes."""
+def loaded(ezdxf: Any, text: str) -> Any:
+    """The document of a file of this text."""
     try:
-        return tags.document_of(data)
+        return tags.document_of(text)
     except Exception:  # whatever isn't as it is mostly, for which ezdxf is asked
-        return ezdxf.readfile(path)
+        return ezdxf.read(io.StringIO(text, newline=None))
 
 
 def dxf_of(path: str) -> bytes:
@@ -450,8 +452,9 @@ def read_sheet(path: str, choices: Sequence[Choice]) -> Sheet:
     """Reads a file. What is changed and what is left out is counted in the sheet."""
     document, mended = opened(path)
     check_lines(path, document)
+    data = pathlib.Path(path).read_bytes()
     # Where a file tells no unit ezdxf answers metres.
-    told = b"$INSUNITS" in pathlib.Path(path).read_bytes()
+    told = b"$INSUNITS" in data
     unit = UNITS.get(document.header.get("$INSUNITS", 0), "") if told else ""
     try:
         sheet = Reader(document, choices, unit).read()
@@ -459,4 +462,6 @@ def read_sheet(path: str, choices: Sequence[Choice]) -> Sheet:
         raise Refused(f"{pathlib.Path(path).name}: blocks stand in one another without an end") from None
     if mended:
         sheet.changed[Thing(mended)] += 1
+    if not data.startswith(BINARY) and (letters := encoding.decoded(data)).lost:
+        sheet.changed[Thing(f"letters that code page {letters.page} doesn't have, read as \ufffd: names of layers may be wrong")] += letters.lost
     return sheet

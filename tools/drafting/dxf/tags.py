@@ -13,14 +13,12 @@ class Odd(Exception):
     """A file that ezdxf has to read by itself."""
 
 
-def document_of(data: bytes) -> Any:
-    """The document of a file's bytes, as `ezdxf.readfile` gives it. Odd, or whatever ezdxf stumbles on, where it has to be read by that."""
-    if not data.isascii():
-        raise Odd("its encoding has to be found")
+def document_of(text: str) -> Any:
+    """The document of a file's text, as `ezdxf.read` gives it. Odd, or whatever ezdxf stumbles on, where it has to be read by that."""
     from ezdxf.document import Drawing
     document = Drawing()
     document.is_loading = True
-    document._load_section_dict(sections_in(data.decode().replace("\r\n", "\n").replace("\r", "\n").split("\n")))
+    document._load_section_dict(sections_in(text.replace("\r\n", "\n").replace("\r", "\n").split("\n")))
     return document
 
 

@@ -181,7 +181,7 @@ def ask(path: str | None, arguments: argparse.Namespace, tell: Tell, command: tu
         tell(notes.found(f"recon reads the file as it is, with {option('decimals', str(decimals))}"))
         if missing := missing_in(views_of(lines)):
             tell(notes.found(f"two views, without {missing}"))
-    rounds = readings.of_drawing(sheet.Drawn(data.decode(), decimals, origin_of(lines)), given, ask_all(arguments)) if given and not fault else None
+    rounds = readings.of_drawing(sheet.Drawn(data.decode(errors="surrogateescape"), decimals, origin_of(lines)), given, ask_all(arguments)) if given and not fault else None
     return Asked(data, lines, decimals, origin_of(lines), run, None, rounds, None, arguments.sections)
 
 

@@ -126,7 +126,7 @@ class Readings(NamedTuple):
 
 def answered(drawn: pipeline.Drawn, ask: Asker) -> Answered | None:
     """What comes of one reading; nothing where the drawing has a fault."""
-    data = drawn.text.encode()
+    data = drawn.text.encode(errors="surrogateescape")
     given, run = given_in(lines_within(data)), ask(data, drawn.decimals)
     if given is None or run.status == process.FAULT:
         return None
@@ -135,7 +135,7 @@ def answered(drawn: pipeline.Drawn, ask: Asker) -> Answered | None:
 
 def of_drawing(drawn: pipeline.Drawn, given: Given, ask: Asker) -> Readings:
     """What comes of a drawing that was squared off before."""
-    run = ask(drawn.text.encode(), drawn.decimals)
+    run = ask(drawn.text.encode(errors="surrogateescape"), drawn.decimals)
     if run.status == process.FAULT:
         return Readings([], None, 0, 1)
     one = Answered(drawn, given, run, kept.outcome(answer_of(run.text), given, drawn.decimals))
