@@ -13,7 +13,8 @@ from ..core.notes import Thing, Things
 from . import curves, encoding, file_types, tags
 from .crosscheck import BINARY, Unreadable, check_lines, line_of_file, version_needed
 from .drawing import UNITS, Place
-from .styles import CUTTING, HATCHED, Choice, Look, Style, style_of
+from .layer_words import Role, role_of
+from .styles import Choice, Look, Style, style_of
 
 if TYPE_CHECKING:
     from ..core.page import Page
@@ -342,7 +343,7 @@ class Reader:
         sheet = self.sheet
         style, why = style_of(look, self.choices, self.pattern(look.linetype))
         source = self.source(entity, kind, look, around)
-        is_drawn_hatch = kind == "LINE" and style is Style.APART and HATCHED.search(look.layer)
+        is_drawn_hatch = kind == "LINE" and style is Style.APART and role_of(look.layer) is Role.HATCH
         if (kind in KEPT or is_drawn_hatch) and not any(choice.style is Style.APART and choice.meets(look) for choice in self.choices):
             sheet.kept.append(Kept(entity, source))
         if kind in TEXTS:
@@ -351,7 +352,7 @@ class Reader:
         elif kind not in ("LINE", *POLYLINES, *CURVES):
             sheet.left[on_layer(kind, look.layer)] += 1
         elif style in (Style.CENTRE, Style.APART):
-            if style is Style.CENTRE or CUTTING.search(look.layer):
+            if style is Style.CENTRE or role_of(look.layer) is Role.CUTTING:
                 self.chain(entity, kind, look, source)
             what = "centre line, " if style is Style.CENTRE else ""
             sheet.left[on_layer(kind, look.layer, f", {what}{why}" if why else ", a centre line")] += 1

@@ -1,10 +1,10 @@
 """What a line of a sheet is for: a visible edge, a hidden one, or none; by what the user says, its linetype, its layer's name."""
 import enum
-import re
 from collections.abc import Sequence
 from typing import NamedTuple
 
 from ..core.messages import Refused
+from .layer_words import Role, role_of, said_by, said_by_linetype
 
 
 class Style(enum.Enum):
@@ -25,16 +25,11 @@ class Look(NamedTuple):
     is_own: bool = False
 
 
-# Names of linetypes, of AutoCAD, of ISO 128 as AutoCAD names them, and in some languages; and words in names of layers.
-CENTRE = re.compile(r"cent(er|re)|iso(04|05|06|08|09|10|11|12|13|14|15)w|mitt|strichpunkt|achs|axis|axes|\baxe|dash_?-?dot|phantom|divide|border", re.I)
-HIDDEN = re.compile(r"hidden|dash|iso0[23]w|verdeckt|strich|cach[eé]|interrompu|occult|ocult|nascost|unsichtbar|invisible|tratteggi", re.I)
-CUTTING = re.compile(r"cutting|(section|schnitt|coupe|corte)[-_ ]?(line|linie|verlauf|plane|ebene)", re.I)
-HATCHED = re.compile(r"hatch|schraff|hachur|sombread|retino", re.I)
-APART = re.compile(
-    r"border|frame|title|schriftfeld|rahmen|dimension|\bdims?\b|^dim|[-_]dim|bema(ss|ß)|text|notes?\b|defpoints|cadre|"
-    r"cartouche|annot|viewport|quot(e|a)|cota|" + CUTTING.pattern + "|" + HATCHED.pattern,
-    re.I,
-)
+# The linetypes of which the layer's name tells the style.
+PLAIN = ("CONTINUOUS", "BYLAYER", "BYBLOCK")
+STYLES = {Role.CENTRE: Style.CENTRE, Role.HIDDEN: Style.HIDDEN}
+# Lines of these roles are apart from the views.
+ASIDE = (Role.CUTTING, Role.HATCH, Role.DIMENSION, Role.TEXT, Role.FRAME)
 
 
 class Choice(NamedTuple):
@@ -68,21 +63,24 @@ def of_pattern(pattern: Sequence[float]) -> Style:
 
 
 def style_of(look: Look, choices: Sequence[Choice], pattern: Sequence[float] | None) -> tuple[Style, str]:
-    """The style, and by what it was told, in words where that isn't the plain linetype. A linetype's pattern, as the file's table has
-    it, tells those whose names don't."""
+    """The style, and by what it was told, in words where that isn't the plain linetype. What names say stands in `layer_words.py`;
+    a linetype's pattern, as the file's table has it, tells those whose names don't."""
     for choice in choices:
         if choice.meets(look):
             return choice.style, f"as {choice.kind}={choice.value} says"
-    plain = look.linetype.upper() in ("CONTINUOUS", "BYLAYER", "BYBLOCK")
-    if plain and APART.search(look.layer):
-        return Style.APART, f"layer {look.layer} is named for frames, texts or dimensions"
-    if plain:
-        for wanted, style in ((HIDDEN, Style.HIDDEN), (CENTRE, Style.CENTRE)):
-            if wanted.search(look.layer):
-                return style, f"by the name of layer {look.layer}"
-        return Style.VISIBLE, ""
-    for wanted, style in ((CENTRE, Style.CENTRE), (HIDDEN, Style.HIDDEN)):
-        if wanted.search(look.linetype):
-            return style, "" if look.linetype.upper() in ("HIDDEN", "DASHED", "CENTER") else f"by linetype {look.linetype}"
+    if look.linetype.upper() in PLAIN:
+        said = said_by(look.layer)
+        if said is None or said.role is Role.VISIBLE:
+            return Style.VISIBLE, ""
+        if said.role in ASIDE:
+            return Style.APART, f"layer {look.layer} is named for {said.role.value}"
+        return STYLES[said.role], f"by the name of layer {look.layer}"
+    if said := said_by_linetype(look.linetype):
+        return STYLES[said.role], "" if look.linetype.upper() in ("HIDDEN", "DASHED", "CENTER") else f"by linetype {look.linetype}"
     style = of_pattern(pattern) if pattern is not None else Style.UNKNOWN
     return style, f"linetype {look.linetype}" + ("" if style is Style.UNKNOWN else ", by its pattern")
+
+
+def is_hidden_by_name(look: Look) -> bool:
+    """Whether only the name of its layer says that a line is hidden."""
+    return look.linetype.upper() in PLAIN and role_of(look.layer) is Role.HIDDEN

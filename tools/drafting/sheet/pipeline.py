@@ -23,18 +23,18 @@ from ..core.notes import Note, Tell
 from ..core.verdict import Reason
 from ..dxf.drawing import MILLIMETRES, VIEWS, Origin, Stroke, places_of, written
 from ..dxf.reader import Edge, Sheet, Unread, read_sheet, where
-from ..dxf.styles import Style, choice_of
+from ..dxf.styles import Choice, Style, choice_of
 from ..geometry.segments import MOST_DECIMALS, At, Measure, Run, apart, fits, hidden_by, measure_of, runs_of
 from ..messages.controls import command, option, without
 from ..sections import layers as section_views
 from ..sections.cutting_plane_marks import Mark, marks_of, without_marks
 from ..sections.recognize import labels_of, sections_of
-from . import view_files, two_views, scale
+from . import outlines, view_files, two_views, scale
 from .back_to_sheet import Paper
 from .exploded_dimensions import without_dimensions
 from .groups import Group
 from .placement import Hints, Placed, by_names, extents_of, main_named, named_views, numbers_of, view_named
-from .unreadable import refuse_oblique, refuse_unread, way_of_style
+from .unreadable import refuse_hidden_outline, refuse_oblique, refuse_unread, way_of_style, with_layers
 
 NAME = "sheet"
 HELP = "write a sheet as people draw it as the drawing that recon reads"
@@ -140,8 +140,7 @@ def edges_of(path: str | None, arguments: argparse.Namespace, tell: Tell) -> tup
         from ..cad import redraw  # which stands on FreeCAD
         return redraw.sheet_of(str(path), arguments, tell), []
     documents.check_options(arguments, False)
-    styles = (("hidden", Style.HIDDEN), ("visible", Style.VISIBLE), ("leave_out", Style.APART))
-    choices = [choice_of(text, style) for name, style in styles for text in getattr(arguments, name) if not text.startswith("group=")]
+    choices = choices_of(arguments)
     named = view_files.files_of(arguments, path)
     sheets = list(view_files.read_views(named, choices).values()) if named else [read_sheet(str(path), choices)]
     whole = view_files.together(sheets)
@@ -159,6 +158,12 @@ def edges_of(path: str | None, arguments: argparse.Namespace, tell: Tell) -> tup
         tell(noted.changed(f"{many(hidden, 'line')} taken as hidden, since {visible} lacks them", hidden))
     marks = [mark for sheet in sheets for mark in without_annotations(sheet, arguments.tolerance, tell)]
     return view_files.together(sheets), marks
+
+
+def choices_of(arguments: argparse.Namespace) -> list[Choice]:
+    """What the user says of lines by their colours, layers and linetypes."""
+    styles = (("hidden", Style.HIDDEN), ("visible", Style.VISIBLE), ("leave_out", Style.APART))
+    return [choice_of(text, style) for name, style in styles for text in getattr(arguments, name) if not text.startswith("group=")]
 
 
 def hidden_within(whole: Sequence[Edge], visible: Sequence[Edge], tolerance: float) -> list[Edge]:
@@ -406,7 +411,24 @@ def draw_readings(path: str | None, arguments: argparse.Namespace, tell: Tell) -
         drawn = pipeline.first(path, sheet, marks, arguments, tell)
         return drawn._replace(refused=drawn.refused and advised(path, sheet, arguments, drawn.refused))
     except Refused as refusal:
-        raise advised(path, sheet, arguments, refusal) from None
+        raise advised(path, sheet, arguments, with_named(path, sheet, arguments, refusal)) from None
+
+
+def with_named(path: str | None, sheet: Sheet, arguments: argparse.Namespace, refusal: Refused) -> Refused:
+    """A refusal with the layers that were left out by their names and with which the sheet is drawn, unless it is tried for another refusal."""
+    if isinstance(refusal, Advisable) or getattr(arguments, "is_tried", False):
+        return refusal
+    layers = outlines.left_by_names(sheet, choices_of(arguments))
+    return with_layers(refusal, [it for it in layers if is_drawn(path, arguments, visible=[*arguments.visible, f"layer={it}"])])
+
+
+def is_drawn(path: str | None, arguments: argparse.Namespace, **more: Any) -> bool:
+    """Whether a sheet is drawn with some options otherwise."""
+    try:
+        draw(path, argparse.Namespace(**{**vars(arguments), **more, "is_tried": True}), noted.tell_none)
+    except Refused:
+        return False
+    return True
 
 
 def advised(path: str | None, sheet: Sheet, arguments: argparse.Namespace, refusal: Refused) -> Refused:
@@ -458,6 +480,7 @@ def checked_views(path: str | None, sheet: Sheet, edges: Sequence[Edge], marks: 
     for note in noted.counted("left out", refuse_unread(path, placed, sheet.unread, arguments.tolerance)):
         tell(note)
     refuse_oblique(path, placed)
+    refuse_hidden_outline(placed, choices_of(arguments), arguments.tolerance)
     if not sheet.page:
         check_styles(placed, arguments, tell)
     return placed

@@ -3,12 +3,14 @@ from collections import Counter
 from collections.abc import Callable, Collection, Sequence
 
 from ..core.advice import Advisable, InTheWay, Noisy, Styleless
-from ..core.messages import Refused
+from ..core.messages import Refused, many
 from ..core.notes import Things
 from ..dxf.drawing import VIEWS, Place
 from ..dxf.reader import Box, Edge, Unread, thing_of, where
+from ..dxf.styles import Choice
 from ..messages.controls import option
 from ..geometry.components import meet
+from . import outlines
 from .groups import Group
 from .placement import Placed, main_named
 
@@ -79,3 +81,18 @@ def refuse_oblique(path: str | None, placed: Placed, taken: Collection[Edge] = (
             text = (f"in {view} a {where(run.edge.source, path)} goes from {a:.9g}, {b:.9g} to {c:.9g}, {d:.9g}{behind}: it is oblique, off by "
                     f"{off:.3g}, and recon reads level and upright edges alone")
             raise Noisy(text, off) if off < NOISE * max(group.width, group.height) else Refused(text + why(run.edge))
+
+
+def refuse_hidden_outline(placed: Placed, choices: Sequence[Choice], tolerance: float) -> None:
+    """Refuses a layer that is named for hidden lines and has the outline of a view."""
+    if found := outlines.hidden_outline(placed.views, choices, tolerance):
+        way = f"layer={found.layer}"
+        raise Refused(f"layer {found.layer} is named for hidden lines (by “{found.word}”), and {many(found.sides, 'side')} of {found.view} "
+                      f"{'is' if found.sides == 1 else 'are'} drawn on it alone: an outline is never hidden. Say {option('visible', way)} where its "
+                      f"lines are visible, or {option('hidden', way)} where they are hidden", "visible", [way])
+
+
+def with_layers(refusal: Refused, layers: Sequence[str]) -> Refused:
+    """A refusal with the layers that were left out by their names, by each of which the sheet was drawn when it was tried as visible."""
+    words = " or ".join(option("visible", f"layer={it}") for it in layers)
+    return refusal.with_words(f"\n  a layer was left out by its name, and with it the views are there: where it is one of edges, say {words}") if words else refusal
