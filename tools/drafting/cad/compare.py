@@ -185,27 +185,33 @@ def enlarged(shape: "Part.Shape", given: Given) -> tuple["Part.Shape", Given]:
 
 
 def differences(shape: "Part.Shape", given: Given) -> Iterator[str]:
-    """Where the views of a shape differ from what was given, in words."""
-    for view in given.lines:
-        made = moved(drawn(shape, view), least_of(given, view))
-        its = bends.Panel(given.lines[view], given.arcs.get(view, []), [it for it in given.bends if it.view == view])
-        lines, arcs, bent = parted(view, made, its)
-        slants = slants_of([*its.lines, *lines])
-        rows = rows_of(lines, arcs, slants)
-        told = joined_near(rows_of(its.lines, its.arcs, slants), rows)
-        left = joined_near(rows_of([it.edge() for it in given.smooth if it.view == view], []), rows)
-        smooth = functools.cache(functools.partial(smooth_rows, shape, view, least_of(given, view)))
-        for (x, y), one, other in bends.differing(its, bends.Panel(made.lines, made.arcs, bent)):
-            yield f"{view}, on a curve at ({x:.6g}, {y:.6g}): the sheet has {one}, the solid {other}"
-        for key in sorted(told.keys() | rows.keys()):
-            both = told.get(key, []), rows.get(key, [])
-            for low, high in stretches(both):
-                middle = (low + high) / 2
-                one, other = (style_at(row, middle) for row in both)
-                # Where a round touches a wall the line that was left out as smooth is an edge, or lies over one.
-                style = style_at([*both[0], *left.get(key, [])], middle)
-                if one != other and style != other and not (style == "solid" and other == "dashed" and is_solid_near(smooth(), key, middle)):
-                    yield f"{view}, {place_told(key, low, high)}: the sheet has {one}, the solid {other}"
+    """Where the views of a shape differ from what was given, in words: in each view that has a line, an arc or another curve."""
+    for view in dict.fromkeys([*given.lines, *given.arcs, *(it.view for it in given.bends)]):
+        yield from differences_in(view, shape, given)
+
+
+def differences_in(view: str, shape: "Part.Shape", given: Given) -> Iterator[str]:
+    """Where one view of a shape differs from what was given, in words."""
+    least = least_of(given, view)
+    made = moved(drawn(shape, view), least)
+    its = bends.Panel(given.lines.get(view, []), given.arcs.get(view, []), [it for it in given.bends if it.view == view])
+    lines, arcs, bent = parted(view, made, its)
+    slants = slants_of([*its.lines, *lines])
+    rows = rows_of(lines, arcs, slants)
+    told = joined_near(rows_of(its.lines, its.arcs, slants), rows)
+    left = joined_near(rows_of([it.edge() for it in given.smooth if it.view == view], []), rows)
+    smooth = functools.cache(functools.partial(smooth_rows, shape, view, least))
+    for (x, y), one, other in bends.differing(its, bends.Panel(made.lines, made.arcs, bent)):
+        yield f"{view}, on a curve at ({x:.6g}, {y:.6g}): the sheet has {one}, the solid {other}"
+    for key in sorted(told.keys() | rows.keys()):
+        both = told.get(key, []), rows.get(key, [])
+        for low, high in stretches(both):
+            middle = (low + high) / 2
+            one, other = (style_at(row, middle) for row in both)
+            # Where a round touches a wall the line that was left out as smooth is an edge, or lies over one.
+            style = style_at([*both[0], *left.get(key, [])], middle)
+            if one != other and style != other and not (style == "solid" and other == "dashed" and is_solid_near(smooth(), key, middle)):
+                yield f"{view}, {place_told(key, low, high)}: the sheet has {one}, the solid {other}"
 
 
 def smooth_rows(shape: "Part.Shape", view: str, least: Place) -> Rows:
