@@ -6,7 +6,7 @@ It reads FRONT, TOP and SIDE alone, which it says on standard error: not what fu
 have these views, whoever wrote the log. To believe that, one has to believe what nothing here shows: that such a solid
 lies in the grid between the drawing's coordinates, and fills each block of it whole or not at all and nothing of the
 outside (Wesley and Markowsky 1981); and what `can_draw` says of two columns, which tools/check tries on all of up to
-four cells. All else is done by the definitions, in the words of docs/DEFINITIONS.md and docs/FORMAT.md."""
+four cells. All else is done by the definitions, in the words of docs/DEFINITIONS.md and docs/OUTPUT.md."""
 import itertools
 import re
 import sys

@@ -91,7 +91,7 @@ def fill(tree: pathlib.Path, source: proved.Source, built: proved.Built) -> None
     for file in sorted((TOP / "examples").rglob("*")):
         if file.is_file() and file.name != "check":
             write(doc / file.relative_to(TOP), file.read_bytes())
-    for page in (TOP / "docs" / "FORMAT.md", TOP / "tools" / "LIBRARY.md"):
+    for page in (TOP / "docs" / name for name in ("DXF.md", "OUTPUT.md", "LIBRARY.md")):
         write(doc / page.name, page.read_bytes())
     write(doc / "PROVED", proved.page(source, built))
     write(doc / "copyright", COPYRIGHT)

@@ -1,7 +1,8 @@
-"""The manual pages and the completion of the package. Those of recon, whose own words are fixed, are made of docs/FORMAT.md; those of
-`draft` of its arguments."""
+"""The manual pages and the completion of the package. Those of recon, whose own words are fixed, are made of docs/OUTPUT.md and
+docs/DXF.md; those of `draft` of its arguments."""
 import argparse
 import ast
+import pathlib
 import re
 import subprocess
 
@@ -10,9 +11,10 @@ from drafting.cli import commands as command
 from drafting.core.messages import Refused
 from drafting.recon.process import TOP
 
-FORMAT = TOP / "docs" / "FORMAT.md"
-# The sections of FORMAT that the manual has, by their first words, and its names for them.
-SECTIONS = {"The arguments": "ARGUMENTS", "What is written": "STATUSES", "The faults": "FAULTS"}
+OUTPUT, DXF = TOP / "docs" / "OUTPUT.md", TOP / "docs" / "DXF.md"
+ARGUMENTS = "Commands and options"
+# The sections of these pages that the manual has, and its names for them.
+SECTIONS = {"ARGUMENTS": (OUTPUT, ARGUMENTS), "STATUSES": (OUTPUT, "Exit statuses"), "FAULTS": (DXF, "Faults")}
 # Commands are completed as the first word, then their options and the values of these; else files are.
 COMPLETION = """\
 _{name}() {{
@@ -30,7 +32,7 @@ _{name}() {{
 }}
 complete -o bashdefault -o default -F _{name} {name}
 """
-SEE = "# SEE ALSO\n\n{others}. /usr/share/doc/recon has FORMAT.md, which says all that is read and written, PROVED, and examples.\n"
+SEE = "# SEE ALSO\n\n{others}. /usr/share/doc/recon has DXF.md and OUTPUT.md, on all that is read and written, PROVED, and examples.\n"
 RECON = """\
 # NAME
 
@@ -48,11 +50,11 @@ solid that has exactly these views, each once, on standard output. For sheets as
 """
 
 
-def section(name: str) -> str:
-    """A section of FORMAT, without its head."""
-    found = re.search(rf"^## {name}\b[^\n]*\n(.*?)(?=^## |\Z)", FORMAT.read_text(encoding="utf-8"), re.M | re.S)
+def section(page: pathlib.Path, name: str) -> str:
+    """A section of a page, without its heading."""
+    found = re.search(rf"^## {name}\n(.*?)(?=^## |\Z)", page.read_text(encoding="utf-8"), re.M | re.S)
     if not found:
-        raise Refused(f"{FORMAT} has no section '{name}'")
+        raise Refused(f"{page} has no section '{name}'")
     return found[1].strip()
 
 
@@ -67,7 +69,7 @@ def manual(name: str, text: str) -> str:
 
 
 def of_recon() -> str:
-    body = "".join(f"# {ours}\n\n{section(theirs)}\n\n" for theirs, ours in SECTIONS.items())
+    body = "".join(f"# {ours}\n\n{section(*theirs)}\n\n" for ours, theirs in SECTIONS.items())
     return manual("recon", RECON + body + SEE.format(others="draft(1), recon-check-log(1)"))
 
 
@@ -88,10 +90,10 @@ def of_check_log() -> str:
 Options = dict[str, list[str]]
 
 
-def of_format() -> dict[str, Options]:
-    """The commands of recon and their options, as the two tables of FORMAT's section on arguments have them."""
-    rows = re.findall(r"^\| `([^`]*)` \| [^|]* \| ([^|]*) \|$", section("The arguments"), re.M)
-    return {words.split()[0]: dict.fromkeys(re.findall(r"--\w+", options), []) for words, options in rows if not words.startswith("-")}
+def of_output() -> dict[str, Options]:
+    """The commands of recon and their options, as the first table of OUTPUT.md has them."""
+    rows = re.findall(r"^\| `([^`]*)` \| [^|]* \| ([^|]*) \|$", section(OUTPUT, ARGUMENTS), re.M)
+    return {words.split()[0]: dict.fromkeys(re.findall(r"--[\w-]+", options), []) for words, options in rows if not words.startswith("-")}
 
 
 def of_arguments() -> dict[str, Options]:
@@ -114,4 +116,4 @@ def completion(name: str, commands: dict[str, Options], others: str = "") -> str
 
 
 def completions() -> dict[str, str]:
-    return {"recon": completion("recon", of_format()), "draft": completion("draft", of_arguments(), "--help --version")}
+    return {"recon": completion("recon", of_output()), "draft": completion("draft", of_arguments(), "--help --version")}

@@ -93,7 +93,7 @@ def page(source: Source, built: Built) -> str:
     """The page PROVED."""
     lines = [
         f"recon {source.version(built.is_proved)}", "", f"commit: {source.commit}", *built.known, f"program (sha256sum /usr/bin/recon): {built.sum}", "",
-        "What is proved, what only tested, and what both rest on says README.md of that commit. draft isn't proved.",
+        "docs/PROOF.md of that commit says what is proved, what is only tested, and what is trusted. draft isn't proved.",
     ]
     return "".join(f"{line}\n" for line in lines)
 

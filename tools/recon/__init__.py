@@ -1,5 +1,5 @@
 """Which solids have the views of a drawing or a sheet, as a library: the program recon, which is proved, lists them, and what is said here of
-sheets, shapes and suggestions isn't proved. It goes by ezdxf's habits, and tools/LIBRARY.md shows its use:
+sheets, shapes and suggestions isn't proved. It goes by ezdxf's habits, and docs/LIBRARY.md shows its use:
 
     import recon
     answer = recon.readfile("clevis.dxf")

@@ -151,7 +151,7 @@ class Numbers(unittest.TestCase):
 @needs_module("ezdxf", "python3-ezdxf")
 class Library(InAFolder):
     def test_the_page_runs(self) -> None:
-        code = re.findall(r"^    (.*)$|^$", (TOOLS / "LIBRARY.md").read_text(), re.M)
+        code = re.findall(r"^    (.*)$|^$", (TOOLS.parent / "docs" / "LIBRARY.md").read_text(), re.M)
         text = "\n".join(line for line in code if line)
         text = text.replace('"examples/', f'"{EXAMPLES}/').replace('"clevis.stl"', repr(str(self.room / "clevis.stl")))
         out = io.StringIO()

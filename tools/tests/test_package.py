@@ -15,8 +15,6 @@ from drafting.recon import process
 
 from .support import TOOLS, draft, needs_command, needs_module, needs_program
 
-# How many rows the table of packages in README has.
-ROWS = 7
 # What a package is made of, beside the program.
 COPIED = ("tools", "examples", "docs", ".gitignore", "crates/*/specs/*", "crates/recon_run/src/command.rt", "crates/tv_base/src/*")
 # An `rt` that says what a test wants of it, and leaves a program.
@@ -77,7 +75,7 @@ class Package(unittest.TestCase):
 
     def completes(self, tree: pathlib.Path) -> None:
         folder = tree / "usr/share/bash-completion/completions"
-        asked = [("recon", "s", "solve stl"), ("recon", "solve --n", "--nodes"), ("draft", "tab", "table"),
+        asked = [("recon", "s", "solve stl"), ("recon", "solve --n", "--nodes"), ("recon", "blocks --two", "--two-views"), ("draft", "tab", "table"),
                  ("draft", "solve --angle t", "third"), ("draft", "solve --so", "--solids"), ("draft", "solve cl", "")]
         for name, words, wanted in asked:
             text = f'. {folder / name}; COMP_WORDS=({name} {words}); COMP_CWORD=$((${{#COMP_WORDS[@]}} - 1)); _{name}; echo "${{COMPREPLY[@]}}"'
@@ -126,8 +124,9 @@ class Packages(unittest.TestCase):
     def test_one_list_of_packages(self) -> None:
         from packaging import deb
         listed = set(ran(TOOLS / "packages").stdout.split())
-        rows = re.findall(r"^\| (`.*?) \|", (TOOLS / "README.md").read_text(), re.M)
-        table = {name for row in rows[:ROWS] for name in re.findall(r"`([\w-]+)`", row)}
+        page = (TOOLS.parent / "docs" / "USING.md").read_text()
+        rows = re.findall(r"^\| (`.*?) \|", page[page.index("\n## Packages\n"):page.index("\n## Quick start\n")], re.M)
+        table = {name for row in rows for name in re.findall(r"`([\w-]+)`", row)}
         fields = {name.split()[0] for name in (*deb.RECOMMENDS, *deb.SUGGESTS)} - {"python3", "openssh-client"}
         self.assertEqual(fields, table)
         self.assertLessEqual(table, listed)

@@ -5,7 +5,7 @@ is whole, 1 at a fault, 3 and 4 where a limit cut it; 12 where it is whole and h
 where --visible-edges-alone lists some by clingo, of which nothing is proved.
 
 With --json standard output is one record for programs instead, whole or not, at a fault and where the sheet is refused too: its schema is
-`recon.solve/1`, which tools/LIBRARY.md tells, with all solids and their faces; `table --json` has a line of the same for each drawing.
+`recon.solve/1`, which docs/LIBRARY.md tells, with all solids and their faces; `table --json` has a line of the same for each drawing.
 
 Of a sheet with circles, arcs and oblique edges it says which solids made of boxes and these have the views: how, `draft sheet --help` names.
 """

@@ -1,6 +1,6 @@
 """Drawings of three layers, and of further views beside these: reading their lines, and writing one.
 
-A drawing is read as docs/FORMAT.md says, as far as its lines go, and looked through for no fault. Sheets are read by ezdxf
+A drawing is read as docs/DXF.md says, as far as its lines go, and looked through for no fault. Sheets are read by ezdxf
 (`reader.py`). It isn't used here for two reasons. What is shown has to be what recon reads, also of a file with faults, which ezdxf mends
 or refuses. And faults, logs and suggestions are told by the lines of the file, of which ezdxf keeps no numbers.
 """

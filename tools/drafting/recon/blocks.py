@@ -1,4 +1,4 @@
-"""A drawing's grid, and the block of each of its cells, as `recon blocks` tells them (docs/FORMAT.md, "What is written")."""
+"""A drawing's grid, and the block of each of its cells, as `recon blocks` tells them (docs/OUTPUT.md, "Blocks")."""
 import argparse
 import functools
 

@@ -20,7 +20,7 @@ BUILD = "(cd crates/recon && rt run -- solve < ../../examples/unit_cube.dxf) bui
 # The most seconds that one run may take, unless the caller says otherwise.
 SECONDS = 3600.0
 
-# The program's statuses, as docs/FORMAT.md has them.
+# The program's statuses, as docs/OUTPUT.md has them.
 WHOLE, FAULT, USAGE, CUT_NODES, CUT_SOLIDS, NO_INPUT, NO_OUTPUT, NO_MEMORY, NO_SUCH_SOLID, NO_LOG = range(10)
 # What it is given where one of the main views isn't drawn.
 TWO_VIEWS = "--two-views"
@@ -78,7 +78,7 @@ def is_program(path: str | pathlib.Path) -> bool:
 def ways() -> str:
     """How to come by the program."""
     others = f"apt install ./recon_VERSION_ARCH.deb, its package; or name one that is elsewhere by {option('program')} or RECON"
-    unproved = "docs/WALK.md, at its end, has one answer unproved, in minutes"
+    unproved = "CONTRIBUTING.md says how to have one answer unproved, in minutes"
     return f"{BUILD}; or {others}; {unproved}" if (TOP / "crates" / "recon").is_dir() else others
 
 

@@ -1,4 +1,4 @@
-"""What came of a drawing as a record for programs, in the schema `recon.solve/1`, which tools/LIBRARY.md tells: `draft solve --json` writes
+"""What came of a drawing as a record for programs, in the schema `recon.solve/1`, which docs/LIBRARY.md tells: `draft solve --json` writes
 it, a line of `draft table --json` is one without faces, and the module `recon` answers by what stands here. Lengths are exact, in the
 drawing's unit."""
 import argparse
