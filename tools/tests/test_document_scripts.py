@@ -133,3 +133,52 @@ class Avoided(unittest.TestCase):
             self.assertEqual(ended("told\n", "--write"), ("", ""))
             self.assertEqual((top / "docs" / "count").read_text(), "1\n")
             self.assertEqual(ended("told\n", "--list")[1], "README.md:1: told\n")
+
+
+SOURCE = """\
+//! A head.
+
+ghost use Rattle.std.specs.Prelude.{IfOk,
+    IsErrOf};
+
+use std::alloc::Global;
+
+/// What it is for.
+pub fn one(alloc: Global) -> Result<u8, Memory>
+    requires few { 1 ≤ 2 }
+    ensures { IfOk result (λ one.
+        one ≡ 1) }
+{
+    // why
+    Ok(1)
+}
+
+impl Counted {
+    ghost view = { λ s. record {
+        a = s.a;
+    } };
+}
+"""
+
+
+class Counts(unittest.TestCase):
+    def test_lines_of_code_and_of_clauses_are_counted_apart(self) -> None:
+        self.assertEqual(script("excerpts").lines_of_source(SOURCE), (7, 3))
+
+    def test_a_row_of_the_table_of_passes_is_filled(self) -> None:
+        excerpts = script("excerpts")
+        row = "| the run | [`run`](../crates/run) | a → b | `Ends` | law | 0 | 1,000 | 0 |"
+        with mock.patch.object(excerpts, "counts_of", {"run": (1022, 249, 3762)}.__getitem__):
+            filled = excerpts.PASS.sub(excerpts.counted_pass, row)
+        self.assertEqual(filled, "| the run | [`run`](../crates/run) | a → b | `Ends` | law | 1,022 | 249 | 3,762 |")
+
+
+class Definitions(unittest.TestCase):
+    def test_the_types_that_definitions_name_are_printed(self) -> None:
+        out = io.StringIO()
+        rests_on = script("rests_on")
+        with contextlib.redirect_stdout(out):
+            rests_on.printed(rests_on.asked_for("AreFittingSolids"))
+        for name in ("pub struct Cut ", "pub struct Layer ", "pub enum Style ", "pub struct Cell ", "abbrev pub Matches "):
+            self.assertIn(name, out.getvalue())
+        self.assertNotIn("pub enum Fault ", out.getvalue())
