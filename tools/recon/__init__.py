@@ -7,6 +7,7 @@ sheets, shapes and suggestions isn't proved. It goes by ezdxf's habits, and docs
         print(solid.number, solid.volume, solid.extents)
 """
 from drafting import __version__
+from drafting.core.verdict import Verdict
 
 from .answer import Answer, Solid
 from .calls import readfile, settle, solve, why
@@ -15,5 +16,5 @@ from .told import Change, Groups, Line, Settling, Suggestion, Why
 
 __all__ = [
     "Answer", "Change", "DrawingFault", "Groups", "Line", "NotThere", "OptionError", "ProgramFailed", "ReconError", "SearchCut", "Settling",
-    "SheetRefused", "Solid", "Suggestion", "Why", "__version__", "readfile", "settle", "solve", "why",
+    "SheetRefused", "Solid", "Suggestion", "Verdict", "Why", "__version__", "readfile", "settle", "solve", "why",
 ]

@@ -10,6 +10,7 @@ from typing import TYPE_CHECKING, Any, overload
 from drafting.cli import clean, chosen
 from drafting.core.messages import write_result
 from drafting.core.notes import Note
+from drafting.core.verdict import Verdict
 from drafting.dxf.drawing import written
 from drafting.explain import settle as settling, why as looking
 from drafting.export import step, stl
@@ -17,6 +18,7 @@ from drafting.projection import cells
 from drafting.recon import blocks, process
 from drafting.report import record as records
 from drafting.solve import pipeline
+from drafting.solve.verdict import verdict_of
 
 from .errors import DrawingFault, NotThere, OptionError, raised_as
 from .told import Settling, Why, groups_of, line_of, suggestion_of
@@ -139,8 +141,10 @@ class Answer:
         self._drawing = {**told["drawing"], "file": name}
         self.status: int = asked.run.status
         """recon's status: 0, or 3 or 4 where a limit cut its search."""
+        self.verdict: Verdict = verdict_of(asked)
+        """The verdict: its `kind`, `count` and `basis`, whether it `is_decided`, and the `reasons` that leave it open."""
         self.count: int | None = told["count"]
-        """How many solids have the views; None where there may be more than are listed."""
+        """How many solids match the drawing; None where that isn't decided."""
         self.unit: str | None = told["unit"]["name"]
         """The drawing's unit of length, as `mm`; None where it tells none."""
         self.missing: str | None = told["missing"]
@@ -148,11 +152,11 @@ class Answer:
         self._solids = [Solid(self, one) for one in records.listed_in(asked, asked.answer())]
 
     def __repr__(self) -> str:
-        return f"<recon.Answer, {'whole' if self.is_whole else 'cut'}, {len(self)} solids>"
+        return f"<recon.Answer, {self.verdict.kind.value}, {len(self)} solids>"
 
     @property
     def is_whole(self) -> bool:
-        """Whether the listed solids are all: of boxes and rounds, where the drawing has rounds."""
+        """Whether it is decided that the listed solids are all: of boxes and rounds, where the drawing has rounds."""
         return self.count is not None
 
     def __len__(self) -> int:

@@ -7,6 +7,7 @@ from typing import Any, NoReturn
 
 from drafting.core.messages import Usage
 from drafting.core.notes import Note
+from drafting.messages import verdict as in_words
 from drafting.sheet import view_files
 from drafting.solve import pipeline
 
@@ -41,8 +42,8 @@ def arguments_of(options: dict[str, Any]) -> argparse.Namespace:
 
 def readfile(path: Path | None = None, strict: bool = False, **options: Any) -> Answer:
     """What recon says of a file: a drawing of three layers as it is, any other sheet as `draft sheet` draws it; or with front=, top= and
-    side= of a file for each view. The options are those of `draft solve`. A limit that cuts the search raises SearchCut where it is
-    strict."""
+    side= of a file for each view. The options are those of `draft solve`. Where it is strict, an answer that isn't decided raises
+    SearchCut."""
     return answered(path, None if path is None else os.fspath(path), strict, options)
 
 
@@ -68,7 +69,7 @@ def answered(path: Path | None, name: str | None, strict: bool, options: dict[st
         asked = pipeline.ask(arguments.drawing, arguments, notes.append)
     answer = Answer(asked, arguments, notes, name)
     if strict and not answer.is_whole:
-        raise SearchCut(f"the list isn't whole: {answer.text.partition(chr(10))[0]}", answer)
+        raise SearchCut(" ".join([in_words.headline(answer.verdict), *in_words.reasons(answer.verdict)]), answer)
     return answer
 
 

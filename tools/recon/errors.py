@@ -46,7 +46,8 @@ class DrawingFault(ReconError):
 
 
 class SearchCut(ReconError):
-    """With strict=True: a limit cut the search, and there may be more solids than those of its `answer`."""
+    """With strict=True: it isn't decided how many solids there are, as where a limit stopped the search. There may be more than those of its `answer`,
+    whose `verdict` says why."""
 
     def __init__(self, why: str, answer: "Answer") -> None:
         super().__init__(why)

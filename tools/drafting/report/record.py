@@ -15,11 +15,14 @@ from typing import Any, NamedTuple
 from .. import __version__
 from ..core.messages import Refused
 from ..core.notes import Note
+from ..core.verdict import Verdict, not_read
+from ..messages import verdict as in_words
 from ..recon import faults, process
 from ..recon.answer import CUT, WHOLE, Answer, Face, Solid, sizes_of
 from ..rounds.verify import Kept
 from ..sheet import view_files
 from ..solve.pipeline import Asked
+from ..solve.verdict import verdict_of
 
 SCHEMA = "recon.solve/1"
 Record = dict[str, Any]
@@ -180,10 +183,10 @@ def count_of(asked: Asked, answer: Answer) -> int:
     return len(asked.kept) if asked.rounds else answer.listed
 
 
-def is_whole(asked: Asked) -> bool:
-    """Whether these are all: the search was whole, and so was the look at what it lists, where solids are rounded back."""
-    first = next(iter(asked.rounds.kept), asked.rounds.first) if asked.rounds else None
-    return asked.run.status == process.WHOLE and not (first and first.outcome.unseen)
+def verdict_record(its: Verdict) -> Record:
+    """The verdict: its count is that of all solids where it is decided, else how many are known; `message` is its headline."""
+    return {"kind": its.kind.value, "count": its.count, "basis": its.basis.value, "message": in_words.headline(its),
+            "reasons": [{"doubt": it.doubt.value, "sentence": it.sentence, "data": dict(it.data)} for it in its.reasons]}
 
 
 def limits_record(arguments: argparse.Namespace, head: str) -> Record:
@@ -202,17 +205,18 @@ def head_record(arguments: argparse.Namespace, outcome: str) -> Record:
 
 
 def record(asked: Asked, arguments: argparse.Namespace, notes: Iterable[Note], most: int | None = None, with_faces: bool = True) -> Record:
-    """What came of a drawing, of whose solids no more than so many are told."""
+    """What came of a drawing, of whose solids no more than so many are told. `outcome` and `status` are of recon's run alone; `verdict` is of all that
+    was done."""
     answer = asked.answer(most)
     outcome = outcome_of(answer.head)
     told, is_fault = head_record(arguments, outcome), outcome == "fault"
     told["drawing"]["read"] = "sheet" if asked.paper else "as_is"
-    listed = 0 if is_fault else count_of(asked, answer)
+    listed, its = 0 if is_fault else count_of(asked, answer), verdict_of(asked)
     return {
-        **told, "status": asked.run.status, "fault": fault_record(answer.head, asked) if is_fault else None, "message": None,
+        **told, "verdict": verdict_record(its), "status": asked.run.status, "fault": fault_record(answer.head, asked) if is_fault else None, "message": None,
         "limits": limits_record(arguments, answer.head),
         "unit": {"name": asked.origin.unit or None, "per_unit": exact(asked.per_unit()), "mirrored": asked.origin.mirrored},
-        "missing": asked.missing or None, "count": listed if is_whole(asked) else None, "listed": listed,
+        "missing": asked.missing or None, "count": its.count if its.is_decided else None, "listed": listed,
         "solids": [] if is_fault else [solid_record(one, asked.origin.times, with_faces) for one in listed_in(asked, answer)[:most]],
         "rounds": rounds_record(asked), "notes": list(map(dataclasses.asdict, notes)), "seconds": round(asked.run.seconds, 3),
     }
@@ -222,7 +226,7 @@ def of_none(outcome: str, why: str) -> Record:
     """The record of a drawing of which there is no answer, but for what every record begins with: `refused`, `failed` or `lost`, and why."""
     return {
         "schema": SCHEMA, "draft": __version__, "program": None, "drawing": {**file_record(None), "views": {}, "read": None}, "outcome": outcome,
-        "status": None, "fault": None, "message": why, "limits": None, "unit": None, "missing": None, "count": None, "listed": 0, "solids": [],
+        "verdict": verdict_record(not_read(why)), "status": None, "fault": None, "message": why, "limits": None, "unit": None, "missing": None, "count": None, "listed": 0, "solids": [],
         "rounds": None, "notes": [], "seconds": None,
     }
 

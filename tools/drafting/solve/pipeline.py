@@ -9,6 +9,7 @@ from typing import NamedTuple
 from ..core import page as documents, notes
 from ..core.messages import Refused, Usage
 from ..core.notes import Note, Tell
+from ..core.verdict import Reason
 from ..dxf.crosscheck import Unreadable
 from ..dxf.drawing import Origin, decimals_of, entries_of, lines_of, lines_within, missing_in, origin_of, passed_over, views_of
 from ..messages.controls import option
@@ -37,7 +38,7 @@ SHEETS = ("Binary", "NotWhole", "Linetype", "Geometry", "EmptyView", "TooManyLin
 class Asked(NamedTuple):
     """What was asked, and the answer: the drawing that the program read, the lines of that, with how many decimals, how it stands for
     the sheet, the run, and where it was made of a sheet the way back to that; where rounds were squared off also what came of it; of a document of
-    FreeCAD its page; and whether its sections were to be read."""
+    FreeCAD its page; whether its sections were to be read; and what the reading of the sheet leaves open."""
 
     data: bytes
     lines: list[str]
@@ -48,6 +49,7 @@ class Asked(NamedTuple):
     rounds: Readings | None = None
     page: documents.Page | None = None
     with_sections: bool = False
+    reasons: tuple[Reason, ...] = ()
 
     @property
     def kept(self) -> list[Kept]:
@@ -127,9 +129,9 @@ def add_reading(parser: argparse.ArgumentParser) -> None:
     parser.add_argument("--as-is", action="store_true", help="the program reads the file as it is, and no sheet is drawn for it")
     parser.add_argument("--decimals", type=int, choices=range(7), help="how many decimals the file is read with as it is (else found)")
     parser.add_argument("--sections", action="store_true", help="sections are read, on layers as SECTION_FRONT_12 and AREA_FRONT_12")
-    parser.add_argument("--all-readings", action="store_true", help="of a sheet whose lines may be tangent edges all readings are tried")
-    parser.add_argument("--reading-seconds", type=float, default=readings.SECONDS, metavar="SECONDS",
-                        help=f"for so long readings are tried (else {readings.SECONDS:g}); what was left is told")
+    parser.add_argument("--all-readings", action="store_true", help="try all readings of a sheet whose lines may be tangent edges, however long it takes")
+    parser.add_argument("--reading-seconds", type=float, metavar="SECONDS",
+                        help=f"try readings for so long (else {readings.SECONDS:g} once a solid is found, {readings.PATIENCE:g} until then)")
     process.add_arguments(parser)
     sheet.add_options(parser)
 
@@ -181,7 +183,10 @@ def ask(path: str | None, arguments: argparse.Namespace, tell: Tell, command: tu
         tell(notes.found(f"recon reads the file as it is, with {option('decimals', str(decimals))}"))
         if missing := missing_in(views_of(lines)):
             tell(notes.found(f"two views, without {missing}"))
-    rounds = readings.of_drawing(sheet.Drawn(data.decode(errors="surrogateescape"), decimals, origin_of(lines)), given, ask_all(arguments)) if given and not fault else None
+    rounds = None
+    if given and not fault:
+        ask_once = (lambda *_: run) if words == solve_words(arguments, decimals) else ask_all(arguments)
+        rounds = readings.of_drawing(sheet.Drawn(data.decode(errors="surrogateescape"), decimals, origin_of(lines)), given, ask_once)
     return Asked(data, lines, decimals, origin_of(lines), run, None, rounds, None, arguments.sections)
 
 
@@ -200,10 +205,14 @@ def is_plain(lines: list[str]) -> bool:
 def ask_all(arguments: argparse.Namespace) -> readings.Asker:
     """Asks for all solids of a squared-off drawing."""
     def ask_one(data: bytes, decimals: int) -> process.Run:
-        words = ["solve", *sections_words(("solve",), arguments), *decimals_words(("solve",), decimals), *limits_of(arguments)]
-        return process.run(process.find(arguments.program), words, data, arguments.seconds)
+        return process.run(process.find(arguments.program), solve_words(arguments, decimals), data, arguments.seconds)
 
     return ask_one
+
+
+def solve_words(arguments: argparse.Namespace, decimals: int) -> list[object]:
+    """What the program is given where all solids of a squared-off drawing are asked for."""
+    return ["solve", *sections_words(("solve",), arguments), *decimals_words(("solve",), decimals), *limits_of(arguments)]
 
 
 def limits_of(arguments: argparse.Namespace) -> list[object]:
@@ -324,5 +333,9 @@ def of_sheet(path: str | None, arguments: argparse.Namespace, tell: Tell, comman
     data = drawn.text.encode()
     lines = lines_within(data)
     words = [*command, *views_words(lines), *sections_words(command, arguments), *decimals_words(command, drawn.decimals), *words_of(arguments)]
-    run = process.run(process.find(arguments.program), words, data, arguments.seconds)
-    return Asked(data, lines, drawn.decimals, drawn.origin, run, drawn.paper, rounds, drawn.page, arguments.sections)
+    known = rounds.likeliest if rounds else None
+    if known and words == solve_words(arguments, drawn.decimals):
+        run = known.run
+    else:
+        run = process.run(process.find(arguments.program), words, data, arguments.seconds)
+    return Asked(data, lines, drawn.decimals, drawn.origin, run, drawn.paper, rounds, drawn.page, arguments.sections, drawn.reasons)

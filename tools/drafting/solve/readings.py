@@ -1,24 +1,24 @@
-"""Which reading of a sheet with rounds is answered: the first of which some solid is kept, once its rounds are rounded back; or all of
-them, where that is asked for."""
+"""The readings of a sheet with rounds: all are tried, the likeliest first, for some seconds, and the solids of each are rounded back and kept where
+they have the sheet. What is found before isn't asked about or built again."""
 import argparse
+import math
 import time
 from collections.abc import Callable
 from typing import NamedTuple
 
-from ..core.messages import Progress, many
+from ..core.messages import Progress
+from ..core.verdict import Doubt, Reason, readings_not_tried
 from ..dxf.drawing import lines_within
-from ..messages.controls import option
 from ..recon import process
 from ..recon.answer import WHOLE, answer_of
 from ..rounds import verify as kept
 from ..rounds.features import Given, given_in
 from ..rounds.verify import Outcome
 from ..sheet import pipeline
+from . import left_open
 
-# For how many seconds readings are tried, unless the caller says otherwise.
-SECONDS = 300.0
-# What a sheet leaves open of its lines.
-OPEN = "Which of its lines are tangent edges, or which corners oblique ones cut off or fill,"
+# For how many seconds readings are tried once some solid is kept, and as long as none is, unless the caller says otherwise.
+SECONDS, PATIENCE = 20.0, 300.0
 # What is told where no solid is kept: of curves that don't stand free as far as the sheet shows it, so many, or of none.
 CAUSE, MOST_TOLD = "The likely cause is {} that doesn't stand free:", 4
 UNKNOWN = "The cause isn't known, since the other views confirm each curve: a line lacks or is too much (draft why), or something doesn't stand free."
@@ -35,13 +35,19 @@ class Answered(NamedTuple):
     outcome: Outcome
 
     @property
+    def head(self) -> str:
+        """The first line of what recon wrote."""
+        return self.run.text.partition("\n")[0]
+
+    @property
     def is_whole(self) -> bool:
-        return bool(WHOLE.fullmatch(self.run.text.partition("\n")[0]))
+        return bool(WHOLE.fullmatch(self.head))
 
 
 class Readings(NamedTuple):
     """What came of the readings of a sheet that were tried: those of which solids are kept, or else the first one; how many were tried, of how
-    many; where no more were tried for want of time, within how many seconds; and where none is kept the first one that has solids."""
+    many; where no more were tried for want of time, within how many seconds; where none is kept the first one that has solids; what those that were
+    tried leave open; and how many of these drawings recon didn't take."""
 
     kept: list[Answered]
     first: Answered | None
@@ -49,11 +55,18 @@ class Readings(NamedTuple):
     among: int
     seconds: float | None = None
     nearest: Answered | None = None
+    open: tuple[Reason, ...] = ()
+    faults: int = 0
 
     @property
     def likeliest(self) -> Answered | None:
         """The first reading of which some solid is kept, else the first one."""
         return next(iter(self.kept), self.first)
+
+    @property
+    def shown(self) -> Answered | None:
+        """The reading of whose solids it is told what came: one that has some, where none is kept."""
+        return self.kept[0] if self.kept else self.nearest or self.first
 
     @property
     def elsewhere(self) -> int:
@@ -66,23 +79,9 @@ class Readings(NamedTuple):
         return {one.solid.choice for one in self.likeliest.outcome.kept} if self.likeliest else set()
 
     @property
-    def made(self) -> str:
-        """What is promised of the solids: of what they are made."""
-        given = self.likeliest.given if self.likeliest else None
-        crossed = " or crossing others as a hole does" if given and given.is_crossed else ""
-        return f"made of boxes and these {given.kinds if given else 'rounds'}, each standing free{crossed}"
-
-    @property
-    def where(self) -> str:
-        """What is added to how many solids there are, where the sheet can be read otherwise."""
-        is_plain = not self.kept or self.kept[0].given.reading[0] <= self.among
-        return "" if self.tried == self.among and is_plain else ", as its lines are read here"
-
-    @property
-    def outcome(self) -> list[str]:
-        """What came of the solids of the reading that is told: of one that has some, where none is kept."""
-        one = self.kept[0] if self.kept else self.nearest or self.first
-        return one.outcome.told() if one else []
+    def is_plain(self) -> bool:
+        """Whether the reading in use changes nothing but which lines are left out as tangent edges."""
+        return not self.kept or self.kept[0].given.reading[0] <= self.among
 
     @property
     def cause(self) -> list[str]:
@@ -97,40 +96,53 @@ class Readings(NamedTuple):
         cause = CAUSE.format("a curve or an oblique edge" if given.chamfers else "a curve")
         return [f"{cause} {'; '.join(its[:MOST_TOLD])}{more}."]
 
-    def told(self) -> list[str]:
-        """All that is told beside the solids that are kept."""
-        return [*self.outcome, *self.cause, *self.choice]
-
-    @property
-    def choice(self) -> list[str]:
-        """How many readings were tried, and which one is told."""
-        number = self.kept[0].given.reading[0] if self.kept else 0
-        if self.among == 1 and number < 2:
-            return []
-        rows = [f"{OPEN} the sheet doesn't tell: of {many(self.among, 'reading')} {self.tried} "
-                f"{'was' if self.tried == 1 else 'were'} tried."]
-        if number > self.among:
-            rows.append("None of them gives a solid that is kept: here also ends of lines were moved, or fillets squared off to their centres.")
-        elif self.tried < self.among and self.seconds is not None:
-            rows.append(f"No more were tried in {self.seconds:g} seconds ({option('reading-seconds')}): other solids may have the sheet in the others.")
-        elif self.tried < self.among and self.kept:
-            rows.append(f"This is number {number}; other solids may have the sheet in the others (of a sheet {option('all-readings')} tries them).")
-        elif self.tried < self.among:
-            rows.append("It keeps no solid; the sheet itself, in place of this drawing of it, is read in the others too.")
-        elif self.kept:
-            rows.append("No other solid is kept in any of them.")
-        if self.elsewhere:
-            rows.append(f"They are kept in {len(self.kept)} readings: pages show those of the first one, reading {number}.")
-        return rows
+    def reasons(self) -> list[Reason]:
+        """What the readings leave open."""
+        tried = self.tried - self.faults
+        return [*([readings_not_tried(max(0, tried), self.among, self.seconds)] if tried < self.among else []),
+                *([] if self.is_plain else [Reason(Doubt.READING_UNLIKELY, left_open.MOVED, (("reading", self.kept[0].given.reading[0]),))]), *self.open]
 
 
-def answered(drawn: pipeline.Drawn, ask: Asker) -> Answered | None:
-    """What comes of one reading; nothing where the drawing has a fault."""
-    data = drawn.text.encode(errors="surrogateescape")
-    given, run = given_in(lines_within(data)), ask(data, drawn.decimals)
-    if given is None or run.status == process.FAULT:
-        return None
+class Known:
+    """What was found of squared-off drawings by now: recon's runs by their text, and which, with what was squared off of them, have no solid, or
+    none but those that are kept, so that they give nothing new in another reading of the sheet."""
+
+    def __init__(self) -> None:
+        self.runs: dict[str, process.Run] = {}
+        self.done: set[object] = set()
+
+    def run(self, drawn: pipeline.Drawn, ask: "Asker") -> process.Run:
+        """The program's run over a drawing, which isn't run over the same lines again."""
+        key = lines_in(drawn)
+        if key not in self.runs:
+            self.runs[key] = ask(drawn.text.encode(errors="surrogateescape"), drawn.decimals)
+        return self.runs[key]
+
+    def is_done(self, drawn: pipeline.Drawn, given: Given) -> bool:
+        return lines_in(drawn) in self.done or built_of(drawn, given) in self.done
+
+    def note(self, found: Answered) -> None:
+        """Notes what came of a reading. Of one whose solids are compared with other lines of the sheet in the next reading nothing is noted where
+        some solid differs from the sheet."""
+        if not found.outcome.listed and found.is_whole:
+            self.done.add(lines_in(found.drawn))
+        elif found.outcome.kept and not found.outcome.others and not any(one.doubt for one in found.outcome.kept):
+            self.done.add(built_of(found.drawn, found.given))
+
+
+def built_of(drawn: pipeline.Drawn, given: Given) -> object:
+    """What the shapes of a drawing's solids are made of: its lines, and all that was squared off or taken off."""
+    return lines_in(drawn), repr((given.rounds, given.chamfers, given.holes, given.cones, given.moved))
+
+
+def answered(drawn: pipeline.Drawn, given: Given, run: process.Run) -> Answered:
+    """What comes of one reading, of which recon had this to say."""
     return Answered(drawn, given, run, kept.outcome(answer_of(run.text), given, drawn.decimals))
+
+
+def open_in(one: Answered) -> tuple[Reason, ...]:
+    """What a reading that was tried leaves open."""
+    return tuple(left_open.of_reading(one.head, one.given, one.outcome, one.drawn.reasons))
 
 
 def of_drawing(drawn: pipeline.Drawn, given: Given, ask: Asker) -> Readings:
@@ -138,17 +150,25 @@ def of_drawing(drawn: pipeline.Drawn, given: Given, ask: Asker) -> Readings:
     run = ask(drawn.text.encode(errors="surrogateescape"), drawn.decimals)
     if run.status == process.FAULT:
         return Readings([], None, 0, 1)
-    one = Answered(drawn, given, run, kept.outcome(answer_of(run.text), given, drawn.decimals))
-    return Readings([one] if one.outcome.kept else [], one, 1, given.reading[1])
+    one = answered(drawn, given, run)
+    return Readings([one] if one.outcome.kept else [], one, 1, given.reading[1], None, None, open_in(one))
+
+
+def seconds_for(arguments: argparse.Namespace, has_solids: bool) -> float:
+    """For how many seconds readings are tried."""
+    if arguments.reading_seconds is not None:
+        return float(arguments.reading_seconds)
+    return math.inf if arguments.all_readings else SECONDS if has_solids else PATIENCE
 
 
 def readings(drawn: pipeline.Drawn, ask: Asker, arguments: argparse.Namespace) -> Readings:
-    """Tries the readings of a sheet, the likeliest first: the plain ones, and the others where no solid of these is kept; of one whose oblique
+    """Tries the readings of a sheet, the likeliest first: all plain ones, and the others where no solid of these is kept; of one whose oblique
     edges may be squared to several corners each of these."""
-    result, empty, until = Readings([], None, 0, 1), set[str](), time.monotonic() + arguments.reading_seconds
+    result, known, began = Readings([], None, 0, 1), Known(), time.monotonic()
     for group in drawn.others:
-        if result.tried and time.monotonic() > until:
-            result = result._replace(seconds=arguments.reading_seconds)
+        seconds = seconds_for(arguments, bool(result.kept))
+        if result.tried and time.monotonic() > began + seconds:
+            result = result._replace(seconds=seconds)
             break
         its = [one for one in group.its if isinstance(one, pipeline.Drawn)]
         if result.kept and not all(one.is_plain for one in its):
@@ -156,23 +176,26 @@ def readings(drawn: pipeline.Drawn, ask: Asker, arguments: argparse.Namespace) -
             break
         Progress.show(f"reading {result.tried + 1} of {result.among} is tried")
         for one in its:
-            result = tried_too(result, one, ask, empty)
+            result = tried_too(result, one, ask, known)
         if result.first:
             result = result._replace(tried=min(group.last, result.among))
-        if result.kept and not arguments.all_readings:
-            break
     else:
         result = result._replace(tried=result.among)
     Progress.clear()
     return result if arguments.reading is None else result._replace(tried=1)
 
 
-def tried_too(result: Readings, one: pipeline.Drawn, ask: Asker, empty: set[str]) -> Readings:
-    """What came of the readings, and of one more; unless it draws what is known to have no solid."""
-    found = answered(one, ask) if lines_in(one) not in empty else None
-    if found and not found.outcome.listed:
-        empty.add(lines_in(one))
-    return with_one(result, found) if found else result
+def tried_too(result: Readings, one: pipeline.Drawn, ask: Asker, known: Known) -> Readings:
+    """What came of the readings, and of one more; unless it gives nothing that isn't known."""
+    given = given_in(lines_within(one.text.encode(errors="surrogateescape")))
+    if given is None or known.is_done(one, given):
+        return result
+    run = known.run(one, ask)
+    if run.status == process.FAULT:
+        return result._replace(faults=result.faults + one.is_plain)
+    found = answered(one, given, run)
+    known.note(found)
+    return with_one(result, found)
 
 
 def with_one(result: Readings, found: Answered) -> Readings:
@@ -182,7 +205,8 @@ def with_one(result: Readings, found: Answered) -> Readings:
     new = [one for one in found.outcome.kept if not any(are_alike(one, other) for other in others)]
     some = [found._replace(outcome=found.outcome._replace(kept=new))] if new else []
     nearest = result.nearest or (found if found.outcome.listed else None)
-    return Readings([*result.kept, *some], result.first or found, min(number, count), count, None, nearest)
+    return result._replace(kept=[*result.kept, *some], first=result.first or found, tried=min(number, count), among=count, nearest=nearest,
+                           open=tuple(dict.fromkeys((*result.open, *open_in(found)))))
 
 
 def lines_in(drawn: pipeline.Drawn) -> str:
