@@ -52,10 +52,19 @@ class Statuses(unittest.TestCase):
             with self.subTest(name, expected=expected):
                 ended = draft("solve", "--expect", expected, EXAMPLES / f"{name}.dxf")
                 self.assertEqual(ended.status, status, ended.said)
-                self.assertIn("these views: the search was whole", ended.out)
+                verdict = "Unique: one solid matches" if count == 1 else f"Ambiguous: {count} solids match"
+                self.assertTrue(ended.out.startswith(f"{verdict} this drawing."), ended.out)
                 self.assertEqual("not as expected" in ended.said, status != 0)
-        ended = draft("solve", "--expect", 1, "--nodes", 2, EXAMPLES / "quartered_cube.dxf")
-        self.assertEqual(ended.status, 3, ended.said)
+
+    def test_a_search_that_stopped_is_what_nobody_expects(self) -> None:
+        for words, status, told in ((("--nodes", 2), 3, "--nodes 2"), (("--solids", 1), 4, "--solids 1")):
+            with self.subTest(words):
+                ended = draft("solve", *words, EXAMPLES / "quartered_cube.dxf")
+                self.assertEqual(ended.status, status, ended.said)
+                self.assertTrue(ended.out.startswith(f"Not decided: the search stopped at {told}. At least "), ended.out)
+                self.assertIn(f"\nNot checked: the search stopped at its limit of {told[-1]} {words[0][2:]}, so there may be more solids.\nRaise the limit by ", ended.out)
+                for count in (1, 2, 3):
+                    self.assertEqual(draft("solve", *words, "--expect", count, EXAMPLES / "quartered_cube.dxf").status, 12)
 
     def test_standard_input(self) -> None:
         data = (EXAMPLES / "bracket.dxf").read_bytes()

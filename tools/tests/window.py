@@ -125,7 +125,7 @@ def loads() -> None:
 def three_solids_and_the_click() -> None:
     doc = opened("quartered")
     panel = asked(doc)
-    same((panel.state, panel.verdict.text(), panel.part), ("done", "AMBIGUOUS", 1))
+    same((panel.state, panel.verdict.text(), panel.part), ("done", "Ambiguous", 1))
     same(listed(panel), ["Solid 1: 5,000 mm³ - the document's part", "Solid 2: 4,000 mm³", "Solid 3: 4,000 mm³"])
     same((panel.solids.currentRow(), panel.solids.item(0).font().bold(), panel.solids.item(1).font().bold()), (0, True, False))
     same(Gui.getDocument(doc.Name).Modified, False)
@@ -140,7 +140,7 @@ def three_solids_and_the_click() -> None:
     same([it.text() for it in buttons(panel)], ["Add the view that settles:\nLeft"])
     buttons(panel)[0].click()
     ended(panel)
-    same((names(doc), panel.verdict.text(), listed(panel)), (["Front", "Top", "Right", "Left"], "UNIQUE", ["Solid 1: 5,000 mm³ - the document's part"]))
+    same((names(doc), panel.verdict.text(), listed(panel)), (["Front", "Top", "Right", "Left"], "Unique", ["Solid 1: 5,000 mm³ - the document's part"]))
     same(doc.UndoNames[0], "Add the view that settles")
     pictured("settled")
     doc.undo()
@@ -151,10 +151,10 @@ def three_solids_and_the_click() -> None:
 def single_views_get_a_further_one() -> None:
     doc = opened("singles")
     panel = asked(doc)
-    same((panel.verdict.text(), panel.part), ("AMBIGUOUS", 1))
+    same((panel.verdict.text(), panel.part), ("Ambiguous", 1))
     buttons(panel)[0].click()
     ended(panel)
-    same(panel.verdict.text(), "UNIQUE")
+    same(panel.verdict.text(), "Unique")
     same(len(doc.getObject("Page").Views), 4)
     doc.undo()
     same(len(doc.getObject("Page").Views), 3)
@@ -164,21 +164,21 @@ def single_views_get_a_further_one() -> None:
 def without_hidden_lines() -> None:
     doc = opened("no_hidden")
     panel = asked(doc)
-    same((panel.state, panel.verdict.text()), ("done", "UNIQUE WITH HIDDEN LINES"))
-    holds("which it doesn't show in Front, Top, Right", panel.sentence.text())
+    same((panel.state, panel.verdict.text()), ("done", "Not decided"))
+    holds("It doesn't show hidden lines in Front, Top, Right, and this is said of the page with them.", panel.sentence.text())
     holds("As it is the page leaves open which solid is meant", panel.sentence.text())
     same([it.text() for it in buttons(panel)], ["Show the hidden lines"])
     pictured("without_hidden_lines")
     buttons(panel)[0].click()
     ended(panel)
-    same(panel.verdict.text(), "UNIQUE")
+    same(panel.verdict.text(), "Unique")
     doc.undo()
     same({bool(view.HardHidden) for it in doc.Objects if it.TypeId == "TechDraw::DrawProjGroup" for view in it.Views}, {False})
     closed(doc)
 
 
 def a_hole_and_a_link() -> None:
-    for name, verdict in (("hole", "UNIQUE"), ("linking", "UNIQUE")):
+    for name, verdict in (("hole", "Unique"), ("linking", "Unique")):
         doc = opened(name)
         panel = asked(doc)
         same((panel.state, panel.verdict.text(), panel.part), ("done", verdict, 1))
@@ -199,7 +199,7 @@ def refusals() -> None:
         if name == "two_parts":
             same([it.text() for it in buttons(panel)], ["Views of Corner", "Views of Block"])
             buttons(panel)[1].click()
-            same((ended(panel).verdict.text(), listed(panel)), ("UNIQUE", ["Solid 1: 6,000 mm³ - the document's part"]))
+            same((ended(panel).verdict.text(), listed(panel)), ("Unique", ["Solid 1: 6,000 mm³ - the document's part"]))
         closed(doc)
 
 
@@ -251,7 +251,7 @@ def faults_of_recon() -> None:
 
 def solids_from_drawings() -> None:
     from recon_addon import commands
-    for name, verdict, count, length in (("quartered_cube", "AMBIGUOUS", 3, 0), ("inches", "UNIQUE", 1, 50.8), ("quartered_cube_half_hidden", "IMPOSSIBLE", 0, 0)):
+    for name, verdict, count, length in (("quartered_cube", "Ambiguous", 3, 0), ("inches", "Unique", 1, 50.8), ("quartered_cube_half_hidden", "Impossible", 0, 0)):
         doc = FreeCAD.newDocument(name)
         commands.Solids().Activated(path=str(FOLDER / f"{name}.dxf"))
         panel = ended(commands.Solids.panel)
@@ -303,7 +303,8 @@ def in_german() -> None:
     panel = asked(doc)
     pictured("german")
     Gui.setLocale("English")
-    same(panel.verdict.text(), "MEHRDEUTIG")
+    # What `draft` says is in English, the verdict too, so that it is the same everywhere.
+    same(panel.verdict.text(), "Ambiguous")
     holds("Teil des Dokuments", listed(panel)[0])
     closed(doc)
 

@@ -22,12 +22,12 @@ from typing import IO, Any
 from ..core import notes
 from ..core.messages import Refused, many, say
 from ..core.notes import Note
-from ..dxf.drawing import Line, decimals_of, lines_within, missing_in, origin_of, views_of
+from ..dxf.drawing import Line, decimals_of, lines_within, origin_of, views_of
 from ..explain import hidden_unknown, settle, why
 from ..explain.added_views import takes_points
 from ..explain.distinguishing import Solids, all_means, best_first
 from ..projection.draw import FRAMES, sheet_of
-from ..projection.sections import layer_of, views_told
+from ..projection.sections import layer_of
 from ..recon import blocks, faults, process as program
 from ..recon.answer import CUT, FAULT, WHOLE
 from ..recon.blocks import Blocks
@@ -36,8 +36,7 @@ from ..render.html import Units
 from ..render.sections import drawn_sections
 from ..rounds.features import given_in
 from ..serve.queue import MAKE_WAY, STOP
-from ..solve import pipeline
-from ..solve.readings import Readings
+from ..solve import pipeline, verdict as verdicts
 
 NAME = "follow"
 HELP = "ask recon about a drawing, and tell as it goes; `draft serve` runs it"
@@ -111,7 +110,6 @@ def rounds_events(asked: pipeline.Asked) -> Events:
     if not rounds:
         return
     shapes = [one for one in first.outcome.kept if one.shape is not None] if first else []
-    yield from map(said, [*rounds.told(), *map(notes.warning, first.given.doubts if first else ())])
     if not first or not shapes:
         yield said(SQUARED)
         return
@@ -126,8 +124,15 @@ def end_event(how: str, html: str, text: str = "") -> Event:
     return {"kind": "end", "how": how, "html": html, "text": text}
 
 
-def stopped_event(count: int, why_stopped: str = "") -> Event:
-    return end_event("stopped", shown.stopped_told(count, why_stopped))
+def stopped_event(asked: pipeline.Asked | None, count: int, why_stopped: str = "") -> Event:
+    """That the search was ended before its end, by hand or why."""
+    return end_event("stopped", shown.verdict_told(verdicts.stopped(asked, count, why_stopped)))
+
+
+def ended_event(asked: pipeline.Asked, head: str, count: int) -> Event:
+    """How the search of a drawing ended, by its last line, with so many solids."""
+    told = shown.head_told(verdicts.verdict_of(asked, head, count), head, asked.rounds)
+    return end_event("cut" if CUT.fullmatch(head) else "whole", told)
 
 
 def fault_events(lines: list[str], units: Units, head: str, with_sections: bool) -> Events:
@@ -174,7 +179,7 @@ class Search:
         self.blocks = blocks.NONE
         self.choices: list[str] = []
         self.kept: set[str] | None = None
-        self.rounds: Readings | None = None
+        self.asked: pipeline.Asked | None = None
         self.with_sections = False
         # How it is told that what is looked for beyond the search was ended before it was found, as long as that is so.
         self.unlooked: Callable[[str], Event] | None = None
@@ -184,9 +189,14 @@ class Search:
         """The choices that are shown: of a sheet with rounds those of the solids that are kept."""
         return [choice for choice in self.choices if self.kept is None or choice in self.kept]
 
-    def take_rounds(self, rounds: Readings | None) -> None:
-        """Of a sheet with rounds those solids are shown that are kept."""
-        self.rounds, self.kept = rounds, rounds and rounds.choices
+    def take(self, asked: pipeline.Asked) -> None:
+        """Takes how a drawing was read; of a sheet with rounds those solids are shown that are kept."""
+        self.asked, self.kept = asked, asked.rounds and asked.rounds.choices
+
+    def searched_drawing(self, data: bytes) -> pipeline.Asked:
+        """The drawing that is searched: as it was read, else as it is."""
+        none = program.Run(program.WHOLE, "", 0.0)
+        return self.asked or pipeline.Asked(data, self.lines, self.decimals, origin_of(self.lines), none, with_sections=self.with_sections)
 
     def stop(self) -> None:
         self.is_stopped = True
@@ -225,12 +235,10 @@ class Search:
         if FAULT.fullmatch(self.head):
             yield from fault_events(self.lines, Units(decimals, origin_of(self.lines)), self.head, arguments.sections)
         elif self.head:
-            views = views_told(self.lines, self.with_sections)
-            ended = shown.head_told(self.head, len(self.shown), missing_in(views_of(self.lines)), self.rounds, views)
-            yield end_event("cut" if CUT.fullmatch(self.head) else "whole", ended)
+            yield ended_event(self.searched_drawing(data), self.head, len(self.shown))
         else:
             late = f"recon took longer than {arguments.seconds:g} seconds" if self.is_late else ""
-            yield stopped_event(len(self.shown), late)
+            yield stopped_event(self.searched_drawing(data), len(self.shown), late)
         if len(self.shown) > 1:
             yield self.means()
         self.close()
@@ -368,7 +376,7 @@ def follow(arguments: argparse.Namespace, search: Search) -> Events:
         if FAULT.fullmatch(head):
             yield from fault_events(asked.lines, Units(asked.decimals, asked.origin), head, arguments.sections)
             return
-        search.take_rounds(asked.rounds)
+        search.take(asked)
         yield from rounds_events(asked)
         yield from search.events(asked.data, asked.decimals, blocks.blocks_in(asked.run.text), arguments)
         beyond = search.unlooked
@@ -409,7 +417,7 @@ def listen(search: Search, source: IO[str], ended: list[str], last: Callable[[Ev
         if ended:
             last(search.unlooked and search.unlooked(WHY[line]))
         elif search.process is None:
-            last(stopped_event(0))
+            last(stopped_event(None, 0))
     os.killpg(0, signal.SIGKILL)
 
 

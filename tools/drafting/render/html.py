@@ -5,10 +5,10 @@ from collections.abc import Mapping, Sequence
 from fractions import Fraction
 from typing import NamedTuple
 
-from ..core.messages import many
+from ..core.verdict import Kind, Verdict, not_read
 from ..dxf.drawing import Origin, Place, Views
+from ..messages import verdict as in_words
 from ..recon import faults
-from ..recon.answer import CUT, have_views
 from ..rounds.features import Given
 from ..solve import pipeline
 from ..solve.readings import Readings
@@ -20,6 +20,8 @@ from .svg import BEYOND, VIEWS, Curve, views_drawn
 # names, and how much of each.
 MOST_LINES, BESIDE, WIDTH = 60, 4, 100
 MARGIN = 26
+# The style of each verdict on the page.
+STYLES = {Kind.UNIQUE: "unique", Kind.AMBIGUOUS: "ambiguous", Kind.NOT_DECIDED: "undecided", Kind.IMPOSSIBLE: "impossible", Kind.NOT_READ: "fault"}
 
 
 class Units(NamedTuple):
@@ -56,9 +58,14 @@ def excerpt(lines: list[str], named: int, whole: tuple[int, int] | None) -> str:
     return "<pre>" + "\n".join(shown) + "</pre>"
 
 
-def verdict(kind: str, word: str, text: str, more: str = "") -> str:
-    """What the user came for, large: in a word, and in a sentence. What is to be done is told in the page's last line of it."""
-    return f'<div class="verdict {kind}"><p class="word">{word}</p><p class="count">{text}</p><p class="then">{more}</p></div>'
+def verdict_told(its: Verdict, more: str = "") -> str:
+    """What the user came for, large: the verdict in a word, and as a sentence; below it, what leaves it open and what to do. The page's scripts fill
+    the last line, where they know more."""
+    first, *rest = in_words.sentence(its).split("\n")
+    text = html.escape(first[:1].upper() + first[1:].rstrip(".")) + "."
+    why = "".join(paragraph(html.escape(line.strip()), "reason") for line in [*rest, *in_words.reasons(its), *in_words.advice(its)])
+    return (f'<div class="verdict {STYLES[its.kind]}"><p class="word">{in_words.word(its)}</p><p class="count">{text}</p>'
+            f'<p class="then">{more}</p></div>{why}')
 
 
 def fault_told(head: str, lines: list[str]) -> str:
@@ -71,54 +78,19 @@ def fault_told(head: str, lines: list[str]) -> str:
     text = "".join(paragraph(html.escape(words[0].upper() + words[1:]) + ".", "about") for words in about)
     text += excerpt(lines, named, whole) if named else ""
     at = f"Line {named:,} of the file: " if named else ""
-    return verdict("fault", "Fault", html.escape(wrong[0].upper() + wrong[1:]) + ".") + (
+    return verdict_told(not_read(wrong)) + (
         f'<div class="notice fault"><strong>{at}<code>{html.escape(head)}</code></strong>{text}</div>')
 
 
 def refused_told(text: str) -> str:
-    """Why a file isn't taken."""
-    first, *more = text.split("\n")
-    first = html.escape(first.rstrip("."))
-    told = "".join(paragraph(html.escape(line.strip()), "about") for line in more)
-    return verdict("fault", "Not taken", f"{first}.") + (f'<div class="notice fault">{told}</div>' if told else "")
+    """Why a file isn't read."""
+    return verdict_told(not_read(text))
 
 
-def cut_told(what: str, limit: int, count: int) -> str:
-    """That the search was cut."""
-    found = f"than the {count:,} that are listed" if count else "though none is listed"
-    more = "there are more solids" if what == "solids" else "there may be more solids"
-    known = f"Known: at least {many(count, 'solid')}." if count else "Known: nothing yet."
-    text = f"The search was cut at its limit of {limit:,} {what}: {more} {found}."
-    return verdict("undecided", "Not decided", text, f"{known} More may be found with a higher limit.")
-
-
-def head_told(head: str, count: int, missing: str = "", rounds: Readings | None = None, views: str = "these views") -> str:
-    """How a search ended, with so many solids, and which main view isn't drawn; its own figures stand below, small. Of a sheet with rounds
-    those solids count that are kept."""
-    made = f" {rounds.made}," if rounds else ""
-    cut = CUT.fullmatch(head)
-    if cut:
-        words = cut_told(cut[1], int(cut[2]), count)
-    elif rounds and rounds.elsewhere:
-        words = verdict("ambiguous", "Ambiguous", f"{count + rounds.elsewhere:,} solids{made} have {views}{rounds.where}, of which those are shown "
-                        "that are kept in one reading of the sheet.")
-    elif count > 1:
-        ambiguous = f"{count:,} solids{made} have {views}{rounds.where}" if rounds else have_views(count, missing, views)
-        words = verdict("ambiguous", "Ambiguous", f"{ambiguous}.")
-    elif count:
-        unique = f"One solid{made} has {views}{rounds.where}" if rounds else have_views(1, missing, views)
-        words = verdict("unique", "Unique", f"{unique}.")
-    elif rounds:
-        words = verdict("undecided", "Not decided", f"No solid is found that is{made.rstrip(',')} and has {views}.")
-    else:
-        words = verdict("impossible", "Impossible", f"{have_views(0, missing, views)}.")
-    return words + paragraph(f"The program's own words: <code>{html.escape(head)}</code>", "muted figures")
-
-
-def stopped_told(count: int, why: str) -> str:
-    """That a search was stopped, by hand or for a reason."""
-    text = f"The search was stopped{why and ', since ' + html.escape(why)}: {many(count, 'solid')} found, and there may be more."
-    return verdict("undecided", "Not decided", text)
+def head_told(its: Verdict, head: str, rounds: Readings | None = None) -> str:
+    """How a search ended: the verdict; of a sheet with rounds what came of its squared-off drawing; and the program's own figures below, small."""
+    told = "".join(paragraph(html.escape(line.strip()), "reason") for line in (in_words.details(rounds) if rounds else ()))
+    return verdict_told(its) + told + paragraph(f"The program's own words: <code>{html.escape(head)}</code>", "muted figures")
 
 
 # ---- the views

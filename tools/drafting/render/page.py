@@ -22,18 +22,16 @@ from collections.abc import Iterator
 
 from ..core.messages import Refused, say, write_result
 from ..dxf import reader
-from ..dxf.drawing import decimals_of, lines_within, missing_in, origin_of, views_of
+from ..dxf.drawing import decimals_of, lines_within, origin_of, views_of
 from ..live import search
 from ..live.search import Event, Events
 from ..messages.controls import option
-from ..projection.sections import views_told
 from ..recon import blocks, process
-from ..recon.answer import CUT, FAULT, Answer, answer_of, text_of
+from ..recon.answer import FAULT, Answer, answer_of, text_of
 from ..recon.blocks import Blocks
 from ..rounds.features import given_in
 from ..sheet import pipeline as sheet
 from ..solve import readings, pipeline as asking
-from . import html as shown
 from .html import Units
 
 NAME = "page"
@@ -153,17 +151,16 @@ def answer_told(lines: list[str], text: str, its: Blocks | None, with_sections: 
         yield from search.fault_events(lines, units, head, with_sections)
         return
     yield search.drawing_event(lines, units, head, with_sections)
-    rounds = rounds_of(lines, text, units)
-    yield from search.rounds_events(asking.Asked(b"", lines, units.decimals, units.origin, process.Run(process.WHOLE, text, 0.0), None, rounds))
+    rounds, run = rounds_of(lines, text, units), process.Run(process.WHOLE, text, 0.0)
+    asked = asking.Asked(b"", lines, units.decimals, units.origin, run, None, rounds, with_sections=with_sections)
+    yield from search.rounds_events(asked)
     choices: list[str] = []
     if its:
         choices = [it for it in checked_choices(answer, its) if rounds is None or it in rounds.choices]
         yield search.grid_event(its, units)
         yield from search.planes_events(lines, its, units) if with_sections else ()
         yield search.solids_event(choices)
-    count = answer.listed if rounds is None else len(choices)
-    ended = shown.head_told(head, count, missing_in(views), rounds, views_told(lines, with_sections))
-    yield search.end_event("cut" if CUT.fullmatch(head) else "whole", ended)
+    yield search.ended_event(asked, head, answer.listed)
     if its and len(choices) > 1:
         yield search.means_event(its, choices, lines, units.decimals)
 

@@ -14,6 +14,7 @@ from typing import Any
 
 from ..core.messages import Refused, many
 from ..render import html
+from ..solve.verdict import stopped
 from .queue import MAKE_WAY, Limits, Running, Turn, Turns
 
 # The most bytes of what is told of one drawing, of one piece of that, and the most drawings in open pages.
@@ -236,7 +237,7 @@ class Desk:
             text = told_of_failure(failure)
         if job.is_stopped and not job.how:
             job.how = "stopped"
-            job.tell(event("end", how=job.how, html=html.stopped_told(0, ""), text=""))
+            job.tell(event("end", how=job.how, html=html.verdict_told(stopped(None, 0, "")), text=""))
         job.tell(event("over", text=text))
         with job.changed:
             job.is_over = True

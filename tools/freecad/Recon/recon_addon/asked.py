@@ -44,34 +44,33 @@ class Asking:
         asked = pipeline.ask(self.path, self.arguments, lambda note: tell(told=str(note)))
         (self.folder / "drawing.dxf").write_bytes(asked.data)
         (self.folder / "answer.txt").write_text(asked.run.text)
-        count = self.count_of(asked)
-        yield self.verdict(asked, count)
-        yield from self.solids(asked, count)
-        if count > 1:
+        its = self.verdict(asked)
+        yield its
+        yield from self.solids(asked, its["count"])
+        if its["count"] > 1:
             yield self.settled(asked)
         yield from self.left_open(asked)
         yield {"done": True}
 
-    def count_of(self, asked: "Asked") -> int:
-        """How many solids came; refused where the drawing has a fault."""
-        from drafting.recon import answer as answers, faults
+    def verdict(self, asked: "Asked") -> dict[str, Any]:
+        """The verdict as `draft` tells it everywhere: its kind, its word, and the sentence with what leaves it open; refused where the drawing has a
+        fault. And how many solids come, whether the search came to its end, and of which kind they are."""
         from drafting.core.messages import Refused
-        answer = asked.answer(0)
-        if answers.FAULT.fullmatch(answer.head):
-            raise Refused("; ".join(faults.told(answer.head, asked.lines)))
-        return len(asked.kept) if asked.rounds else answer.listed
-
-    def verdict(self, asked: "Asked", count: int) -> dict[str, object]:
-        """What the program says: how many solids there are, whether these are all, and of which kind they are."""
-        from drafting.recon.answer import WHOLE
-        head = asked.run.text.partition("\n")[0]
-        first = next(iter(asked.rounds.kept), asked.rounds.first) if asked.rounds else None
-        is_whole = first.is_whole if first else not asked.rounds and bool(WHOLE.fullmatch(head))
-        for text in [*(first.outcome.told() if first else []), *(asked.rounds.told() if asked.rounds else [])]:
+        from drafting.core.verdict import Doubt, Kind
+        from drafting.messages import verdict as in_words
+        from drafting.solve.verdict import verdict_of
+        its = verdict_of(asked)
+        if its.kind is Kind.NOT_READ:
+            raise Refused(its.message)
+        for text in in_words.details(asked.rounds) if asked.rounds else ():
             tell(told=text)
+        sentence = in_words.sentence(its)
+        told = [sentence[:1].upper() + sentence[1:], *in_words.reasons(its), *in_words.advice(its)]
+        told += [in_words.next_step(its)] if its.kind is Kind.IMPOSSIBLE else []
         lacking = [view.label for view in asked.page.lacking] if asked.page else []
-        return {"count": count, "is_whole": is_whole, "has_rounds": bool(asked.rounds), "lacking": lacking, "missing": asked.missing,
-                "unit": asked.origin.unit}
+        is_whole = not any(it.doubt is Doubt.SEARCH_STOPPED for it in its.reasons)
+        return {"verdict": its.kind.value, "word": in_words.word(its), "sentence": " ".join(told), "count": its.count, "is_whole": is_whole,
+                "has_rounds": bool(asked.rounds), "lacking": lacking, "missing": asked.missing, "unit": asked.origin.unit}
 
     # ---- solids
 

@@ -16,6 +16,7 @@ from .words import translate
 
 # The large words, by how it ended.
 GOOD, DOUBTFUL, BAD, PLAIN = "#0072b2", "#d55e00", "#b3261e", "palette(text)"
+COLOURS = {"unique": GOOD, "ambiguous": DOUBTFUL, "impossible": BAD}
 # The least height of lists, in pixels.
 LEAST = 90
 
@@ -111,34 +112,12 @@ class Panel:
         if event["stage"] == "searched":
             self.sentence.setText(stages["searched"])
 
-    def take_count(self, event: Event) -> None:
-        """The verdict."""
-        self.count, self.is_whole, self.has_rounds = event["count"], event["is_whole"], event["has_rounds"]
+    def take_verdict(self, event: Event) -> None:
+        """The verdict, in the words that `draft` has for it everywhere."""
+        self.kind, self.count, self.is_whole, self.has_rounds = event["verdict"], event["count"], event["is_whole"], event["has_rounds"]
         self.lacking, self.unit = event["lacking"], event["unit"]
-        self.head(*self.words())
+        self.head(event["word"], event["sentence"], COLOURS.get(self.kind, PLAIN))
         self.bar.setRange(0, max(1, self.count))
-
-    def words(self) -> tuple[str, str, str]:
-        """The verdict in large words, a sentence, and its colour."""
-        if self.count > 1:
-            return translate("Recon", "AMBIGUOUS"), self.several(), DOUBTFUL
-        if not self.is_whole:
-            return translate("Recon", "NOT DECIDED"), translate("Recon", "The search was cut before it was known how many solids have these views."), PLAIN
-        if self.count == 1 and self.has_rounds:
-            return translate("Recon", "UNIQUE"), translate("Recon", "One solid made of boxes and these rounds, each standing free, has these views."), GOOD
-        if self.count == 1:
-            return translate("Recon", "UNIQUE"), translate("Recon", "One solid has these views."), GOOD
-        if self.has_rounds:
-            return translate("Recon", "NOT DECIDED"), translate("Recon", "No solid is found that is made of boxes and these rounds, each standing free."), PLAIN
-        return translate("Recon", "IMPOSSIBLE"), translate("Recon", "No solid has these views: draft why says which line to look at."), BAD
-
-    def several(self) -> str:
-        """The sentence of an ambiguous drawing."""
-        if self.has_rounds:
-            return translate("Recon", "{} solids made of boxes and these rounds, each standing free, have these views.", self.count)
-        if not self.is_whole:
-            return translate("Recon", "{} solids have these views, and there are more or may be: the search was cut.", self.count)
-        return translate("Recon", "{} solids have these views.", self.count)
 
     def take_solid(self, event: Event) -> None:
         self.put(event)
@@ -276,15 +255,6 @@ class PagePanel(Panel):
         self.meant = label
         self.begin()
 
-    def words(self) -> tuple[str, str, str]:
-        verdict, sentence, colour = super().words()
-        if not self.lacking:
-            return verdict, sentence, colour
-        with_hidden = translate("Recon", "This is said of the page with hidden lines, which it doesn't show in {}.", ", ".join(self.lacking))
-        if self.count == 1 and self.is_whole:
-            verdict, colour = translate("Recon", "UNIQUE WITH HIDDEN LINES"), DOUBTFUL
-        return verdict, f"{sentence} {with_hidden}", colour
-
     def put(self, event: Event) -> None:
         self.scene.put(event["solid"], event["files"])
         self.part = event["solid"] if event["is_part"] and not self.part else self.part
@@ -317,8 +287,8 @@ class PagePanel(Panel):
         if self.has_rounds:
             self.say(translate("Recon", "The document's part isn't among them: it has rounds that don't stand free, or curves of another kind. "
                                         "It has the page's views too."))
-            if self.count:
-                self.head(translate("Recon", "AMBIGUOUS"), self.sentence.text(), DOUBTFUL)
+            if self.kind in ("unique", "ambiguous"):
+                self.head(translate("Recon", "NOT DECIDED"), self.told.toPlainText().splitlines()[-1], PLAIN)
             return
         self.head(translate("Recon", "A FAULT OF RECON"), translate("Recon",
                   "The document's part has these views, and isn't listed: that is a fault of recon and not of the page. Please send the file that "

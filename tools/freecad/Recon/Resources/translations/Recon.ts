@@ -12,10 +12,6 @@
       <translation type="unfinished" />
     </message>
     <message>
-      <source>AMBIGUOUS</source>
-      <translation type="unfinished" />
-    </message>
-    <message>
       <source>Add the view that leaves
 {} solids: {}</source>
       <translation type="unfinished" />
@@ -50,10 +46,6 @@
       <translation type="unfinished" />
     </message>
     <message>
-      <source>IMPOSSIBLE</source>
-      <translation type="unfinished" />
-    </message>
-    <message>
       <source>Is this page ambiguous?</source>
       <translation type="unfinished" />
     </message>
@@ -71,22 +63,6 @@
     </message>
     <message>
       <source>NOT READ</source>
-      <translation type="unfinished" />
-    </message>
-    <message>
-      <source>No solid has these views: draft why says which line to look at.</source>
-      <translation type="unfinished" />
-    </message>
-    <message>
-      <source>No solid is found that is made of boxes and these rounds, each standing free.</source>
-      <translation type="unfinished" />
-    </message>
-    <message>
-      <source>One solid has these views.</source>
-      <translation type="unfinished" />
-    </message>
-    <message>
-      <source>One solid made of boxes and these rounds, each standing free, has these views.</source>
       <translation type="unfinished" />
     </message>
     <message>
@@ -178,27 +154,11 @@
       <translation type="unfinished" />
     </message>
     <message>
-      <source>The search was cut before it was known how many solids have these views.</source>
-      <translation type="unfinished" />
-    </message>
-    <message>
       <source>The solids are in the group {}; a step back takes them away.</source>
       <translation type="unfinished" />
     </message>
     <message>
       <source>The views are drawn, and recon lists the solids ..</source>
-      <translation type="unfinished" />
-    </message>
-    <message>
-      <source>This is said of the page with hidden lines, which it doesn't show in {}.</source>
-      <translation type="unfinished" />
-    </message>
-    <message>
-      <source>UNIQUE</source>
-      <translation type="unfinished" />
-    </message>
-    <message>
-      <source>UNIQUE WITH HIDDEN LINES</source>
       <translation type="unfinished" />
     </message>
     <message>
@@ -247,18 +207,6 @@
     </message>
     <message>
       <source>{} isn't there: name a Python 3 in the preferences, Recon.</source>
-      <translation type="unfinished" />
-    </message>
-    <message>
-      <source>{} solids have these views, and there are more or may be: the search was cut.</source>
-      <translation type="unfinished" />
-    </message>
-    <message>
-      <source>{} solids have these views.</source>
-      <translation type="unfinished" />
-    </message>
-    <message>
-      <source>{} solids made of boxes and these rounds, each standing free, have these views.</source>
       <translation type="unfinished" />
     </message>
   </context>

@@ -12,10 +12,6 @@
       <translation>Eine Zeichnung</translation>
     </message>
     <message>
-      <source>AMBIGUOUS</source>
-      <translation>MEHRDEUTIG</translation>
-    </message>
-    <message>
       <source>Add the view that leaves
 {} solids: {}</source>
       <translation>Die Ansicht hinzufügen,
@@ -52,10 +48,6 @@ die es entscheidet: {}</translation>
       <translation>Allgemein</translation>
     </message>
     <message>
-      <source>IMPOSSIBLE</source>
-      <translation>UNMÖGLICH</translation>
-    </message>
-    <message>
       <source>Is this page ambiguous?</source>
       <translation>Ist dieses Blatt mehrdeutig?</translation>
     </message>
@@ -74,22 +66,6 @@ die es entscheidet: {}</translation>
     <message>
       <source>NOT READ</source>
       <translation>NICHT GELESEN</translation>
-    </message>
-    <message>
-      <source>No solid has these views: draft why says which line to look at.</source>
-      <translation>Kein Körper hat diese Ansichten: draft why sagt, welche Linie anzusehen ist.</translation>
-    </message>
-    <message>
-      <source>No solid is found that is made of boxes and these rounds, each standing free.</source>
-      <translation>Es ist kein Körper gefunden, der aus Quadern und diesen Rundungen besteht, jede freistehend.</translation>
-    </message>
-    <message>
-      <source>One solid has these views.</source>
-      <translation>Ein Körper hat diese Ansichten.</translation>
-    </message>
-    <message>
-      <source>One solid made of boxes and these rounds, each standing free, has these views.</source>
-      <translation>Ein Körper aus Quadern und diesen Rundungen, jede freistehend, hat diese Ansichten.</translation>
     </message>
     <message>
       <source>Recon: {}</source>
@@ -180,28 +156,12 @@ die es entscheidet: {}</translation>
       <translation>Das Programm recon, wo draft es nicht findet</translation>
     </message>
     <message>
-      <source>The search was cut before it was known how many solids have these views.</source>
-      <translation>Die Suche wurde abgeschnitten, ehe bekannt war, wie viele Körper diese Ansichten haben.</translation>
-    </message>
-    <message>
       <source>The solids are in the group {}; a step back takes them away.</source>
       <translation>Die Körper sind in der Gruppe {}; ein Schritt zurück nimmt sie weg.</translation>
     </message>
     <message>
       <source>The views are drawn, and recon lists the solids ..</source>
       <translation>Die Ansichten werden gezeichnet, und recon sucht die Körper ..</translation>
-    </message>
-    <message>
-      <source>This is said of the page with hidden lines, which it doesn't show in {}.</source>
-      <translation>Das gilt für das Blatt mit verdeckten Kanten, die es in {} nicht zeigt.</translation>
-    </message>
-    <message>
-      <source>UNIQUE</source>
-      <translation>EINDEUTIG</translation>
-    </message>
-    <message>
-      <source>UNIQUE WITH HIDDEN LINES</source>
-      <translation>EINDEUTIG MIT VERDECKTEN KANTEN</translation>
     </message>
     <message>
       <source>Views of {}</source>
@@ -250,18 +210,6 @@ die es entscheidet: {}</translation>
     <message>
       <source>{} isn't there: name a Python 3 in the preferences, Recon.</source>
       <translation>{} ist nicht da: Nennen Sie ein Python 3 in den Einstellungen, Recon.</translation>
-    </message>
-    <message>
-      <source>{} solids have these views, and there are more or may be: the search was cut.</source>
-      <translation>{} Körper haben diese Ansichten, und es gibt mehr, oder es mag mehr geben: Die Suche wurde abgeschnitten.</translation>
-    </message>
-    <message>
-      <source>{} solids have these views.</source>
-      <translation>{} Körper haben diese Ansichten.</translation>
-    </message>
-    <message>
-      <source>{} solids made of boxes and these rounds, each standing free, have these views.</source>
-      <translation>{} Körper aus Quadern und diesen Rundungen, jede freistehend, haben diese Ansichten.</translation>
     </message>
   </context>
   <context>
