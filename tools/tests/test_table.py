@@ -1,4 +1,6 @@
 """Tables of many drawings: each drawing has one row, also where the table was stopped and resumed, and costs none but its own."""
+import csv
+import io
 import json
 import os
 import pathlib
@@ -9,9 +11,12 @@ import sys
 import tempfile
 import tracemalloc
 import unittest
+from collections import Counter
 from unittest import mock
 
+from drafting.cli import table
 from drafting.core.messages import Refused
+from drafting.core.verdict import UNDECIDED
 from drafting.recon import process
 from drafting.report import record as records
 from drafting.table import passes
@@ -22,6 +27,8 @@ from .machines import needs_own_files
 from .support import EXAMPLES, TOOLS, draft, needs_command, needs_module, needs_program
 from .tables import answer_alone, begun, count, kept, made, rows_of, until, words_of
 
+# The status of a table of whose drawings some weren't read.
+NOT_READ = table.ROWS_NOT_READ
 # A program that does with a drawing what a comment in it says, and else what the built one does.
 SPITED = """#!/bin/sh
 text=$(mktemp)
@@ -72,7 +79,7 @@ class Tables(unittest.TestCase):
         self.fill()
         before = kept(self.folder)
         ended = made(self.folder)
-        self.assertEqual(ended.status, 0, ended.said)
+        self.assertEqual(ended.status, NOT_READ, ended.said)
         self.assertTrue(kept(self.folder) == before)
         self.assertEqual(set(ended.rows), {str(file.relative_to(self.folder)) for file in before})
         for file in EXAMPLES.glob("*.dxf"):
@@ -80,8 +87,14 @@ class Tables(unittest.TestCase):
             self.assertEqual((row["status"], row["solids"]), answer_alone(file.read_bytes()), row)
         self.assertEqual(ended.rows["0/fractions.dxf"]["message"], "volume 12,343.75")
         self.assertEqual(ended.rows["cut.dxf"]["status"], "1")
+        counts = Counter(row["verdict"] for row in ended.rows.values())
+        # The drawing of an example with a fault, and of two files that are none.
+        self.assertEqual(counts["not_read"], 3)
+        last = ended.said.splitlines()[-1]
+        self.assertEqual(last, f"draft table: {len(before)} drawings: {counts['unique']} unique, {counts['ambiguous']} ambiguous, "
+                         f"{counts['impossible']} impossible, 3 not read")
         # Asked again, nothing is run.
-        self.assertEqual(made(self.folder), (0, ended.rows, ""))
+        self.assertEqual(made(self.folder), (NOT_READ, ended.rows, f"{last}\n"))
         os.utime(self.folder / "cut.dxf", (1, 1))
         text = subprocess.run([word for word in words_of(self.folder, "--sshlogin", "2/:") if word != "--csv"], capture_output=True)
         self.assertIn(b": 1 drawing of", text.stderr)
@@ -105,7 +118,7 @@ class Tables(unittest.TestCase):
             with open(self.state / "rows", "ab") as rows:
                 rows.write(b'{"key": "cut of')
             ended = made(self.folder, "--program", spited)
-            self.assertEqual(ended.status, 0, ended.said)
+            self.assertEqual(ended.status, NOT_READ, ended.said)
             self.assertEqual(set(ended.rows), {str(file.relative_to(self.folder)) for file in kept(self.folder)})
             self.assertTrue((self.state / "rows").read_bytes().startswith(first))
             self.assertEqual(count(self.state), len(ended.rows))
@@ -126,7 +139,7 @@ class Tables(unittest.TestCase):
         text = subprocess.run(words, input=names[0] + b"\n", capture_output=True)
         row = json.loads(text.stdout)
         self.assertEqual((row["drawing"]["file"], row["status"], row["count"]), (os.fsdecode(names[0]), 0, 1))
-        self.assertEqual((text.returncode, text.stderr), (0, b""))
+        self.assertEqual((text.returncode, text.stderr), (0, b"draft table: 1 drawing: 1 unique\n"))
 
     def test_a_drawing_costs_itself_alone(self) -> None:
         spited = self.spited()
@@ -167,8 +180,35 @@ class Tables(unittest.TestCase):
         (self.folder / "spite.dxf").write_text(head + entities + circle + text + rest)
         row = made(self.folder).rows["spite.dxf"]
         self.assertEqual((row["status"], row["solids"]), ("0", "1"))
-        self.assertRegex(row["message"], "volume 48,000; warning: ezdxf can't read .* as it is; warning: 1 CIRCLE on layer NOTES lies within")
-        self.assertEqual(draft("solve", self.folder / "spite.dxf").status, 0)
+        self.assertRegex(row["message"], "volume 48,000; Not checked: 1 CIRCLE on layer NOTES, .*; warning: ezdxf can't read .* as it is; warning: 1 CIRCLE on layer NOTES")
+        # What lies within the views and isn't read may be of the part.
+        self.assertEqual(row["verdict"], "not_decided")
+        self.assertEqual(draft("solve", self.folder / "spite.dxf").status, UNDECIDED)
+
+    def test_every_row_failed(self) -> None:
+        self.folder.mkdir()
+        for number in range(3):
+            (self.folder / f"{number}.dxf").write_text("hello\n")
+        ended = made(self.folder)
+        self.assertEqual((ended.status, ended.said.splitlines()[-1]), (NOT_READ, "draft table: 3 drawings: 3 not read"))
+
+    def test_links_to_nothing_and_pipes_have_rows(self) -> None:
+        """A pipe would be waited for without an end, and a link to nothing was passed over without a word."""
+        self.folder.mkdir()
+        shutil.copy(EXAMPLES / "unit_cube.dxf", self.folder / "cube.dxf")
+        (self.folder / "folder.dxf").mkdir()
+        (self.folder / "dangling.dxf").symlink_to("/nowhere/part.dxf")
+        (self.folder / "linked.dxf").symlink_to(self.folder / "cube.dxf")
+        os.mkfifo(self.folder / "pipe.dxf")
+        ended = made(self.folder)
+        self.assertEqual({name: (row["status"], row["verdict"], row["message"]) for name, row in ended.rows.items()}, {
+            "cube.dxf": ("0", "unique", "volume 1"), "linked.dxf": ("0", "unique", "volume 1"),
+            "dangling.dxf": ("refused", "not_read", "not read: a link to /nowhere/part.dxf, which isn't there"),
+            "pipe.dxf": ("refused", "not_read", "not read: a pipe, and no file"),
+        })
+        self.assertEqual((ended.status, ended.said.splitlines()[-1]), (NOT_READ, "draft table: 4 drawings: 2 unique, 2 not read"))
+        alone = made(self.folder / "pipe.dxf", self.folder / "dangling.dxf", "--state", self.room / "rows")
+        self.assertEqual([row["verdict"] for row in alone.rows.values()], ["not_read"] * 2)
 
     def test_what_is_refused(self) -> None:
         self.fill("unit_cube")
@@ -218,27 +258,41 @@ class Progress(unittest.TestCase):
             places = [Place(f"{number}.dxf", f"/{number}.dxf") for number in range(1_000)]
             tracemalloc.start()
             self.addCleanup(tracemalloc.stop)
-            table = passes.Table(places, Rows(pathlib.Path(room)), pathlib.Path(sys.executable), [], [])
+            its = passes.Table(places, Rows(pathlib.Path(room)), pathlib.Path(sys.executable), [], [])
             before = tracemalloc.get_traced_memory()[0]
             for number in range(len(places)):
-                table.take(number, 0, {**ROW, "record": record})
+                its.take(number, 0, {**ROW, "record": record})
             self.assertLess(tracemalloc.get_traced_memory()[0] - before, 300 * len(places))
-            table.rows.file.close()
+            its.rows.file.close()
             tracemalloc.reset_peak()
-            table.rows = Rows(pathlib.Path(room))
-            self.assertEqual(sum(map(len, written(table, "json"))) // len(places) // 1_000, 5)
-            self.assertEqual(table.lost_ones(), [])
+            its.rows = Rows(pathlib.Path(room))
+            self.assertEqual(sum(map(len, written(its, "json"))) // len(places) // 1_000, 5)
+            self.assertEqual(its.lost_ones(), [])
             self.assertLess(tracemalloc.get_traced_memory()[1] - before, 900 * len(places))
+
+    def test_no_cell_is_a_formula(self) -> None:
+        names = ['=HYPERLINK("http://x").dxf', "+1.dxf", "-1.dxf", "@SUM(A1).dxf", "\t=1.dxf", "\r=1.dxf", "a=1.dxf", "'b.dxf"]
+        rows: list[Row] = [{"file": name, **ROW, "message": "=cmd|' /C calc'!A1"} for name in names]
+        written_ones = list(csv.reader(io.StringIO(b"".join(written(rows, "csv")).decode(), newline="")))[1:]
+        self.assertEqual([row[0] for row in written_ones], [*(f"'{name}" for name in names[:6]), *names[6:]])
+        self.assertEqual({row[-1] for row in written_ones}, {"'=cmd|' /C calc'!A1"})
+        # JSON is for programs, and has each name as it is.
+        self.assertEqual([json.loads(line)["drawing"]["file"] for line in written(rows, "json")], names)
+
+    def test_the_counts_of_verdicts(self) -> None:
+        for counts, words in (({"unique": 1}, "1 drawing: 1 unique"), ({"not_read": 600}, "600 drawings: 600 not read"),
+                              ({"not_decided": 1, "unique": 1_000, "impossible": 2}, "1,003 drawings: 1,000 unique, 1 not decided, 2 impossible")):
+            self.assertEqual(table.counted(Counter(counts)), words)
 
     def test_a_table_as_it_is_written(self) -> None:
         rows: list[Row] = [{"file": "a,b\udcff.dxf", **ROW}, {"file": "line\nend", **ROW, "solids": None, "message": ""}]
         self.assertEqual(b"".join(written(rows, None)).decode(), (
-            "file          status solids rounds seconds message\n"
-            "a,b\\udcff.dxf 0      1      0      0.50    volume 1\n"
-            "line\\nend     0             0      0.50\n"))
+            "file          status verdict solids rounds seconds message\n"
+            "a,b\\udcff.dxf 0      unique  1      0      0.50    volume 1\n"
+            "line\\nend     0      unique         0      0.50\n"))
         self.assertEqual(b"".join(written(rows, "csv")), (
-            b'file,status,solids,rounds,seconds,message\n"a,b\xff.dxf",0,1,0,0.50,volume 1\n"line\nend",0,,0,0.50,\n'))
+            b'file,status,verdict,solids,rounds,seconds,message\n"a,b\xff.dxf",0,unique,1,0,0.50,volume 1\n"line\nend",0,unique,,0,0.50,\n'))
         self.assertEqual([json.loads(line)["drawing"]["file"] for line in written(rows, "json")], ["a,b\udcff.dxf", "line\nend"])
 
 
-ROW: Row = {"status": 0, "solids": 1, "rounds": 0, "seconds": 0.5, "message": "volume 1", "record": None}
+ROW: Row = {"status": 0, "verdict": "unique", "solids": 1, "rounds": 0, "seconds": 0.5, "message": "volume 1", "record": None}

@@ -7,18 +7,23 @@ that fails often is left out.
 A first pass has low limits, and a second one higher limits for the drawings that passed those. Rows are kept in the folder of --state, so
 that a table that was stopped goes on where it was; there are also GNU parallel's logs of jobs, joblog_PASS_ROUND.
 
-Standard output is the table: file, status, solids, rounds that were squared off, seconds and a message, as text, with --csv as CSV or
-with --json as an object a line. Statuses are those of recon; `refused` where `draft` takes no such drawing; `failed` where reading it
-didn't end within its limits; `lost`, at status 1, where no answer came back, or its file can't be read or was changed meanwhile: the same
-command asks about these again.
+Standard output is the table: file, status, verdict, solids, rounds that were squared off, seconds and a message, as text, with --csv as CSV or
+with --json as an object a line. Verdicts are those of `draft solve`: unique, ambiguous, not_decided, impossible and not_read. Statuses are those
+of recon; `refused` where `draft` reads no such drawing; `failed` where reading it didn't end within its limits; `lost` where no answer came
+back, or its file can't be read or was changed meanwhile: the same command asks about these again.
+
+The last line on standard error counts the verdicts. The command's own status is 0 where every drawing was read; 15 where some weren't, or reading
+them failed; and 1 where rows were lost.
 """
 import argparse
 import pathlib
 import shutil
 import signal
 import sys
+from collections import Counter
 
 from ..core.messages import Refused, many, on_stop, say, write_result
+from ..core.verdict import Kind
 from ..messages.controls import option
 from ..recon import process
 from ..sheet import view_files, pipeline
@@ -31,6 +36,8 @@ NAME = "table"
 HELP = "ask recon about many drawings, and write a table"
 
 SECONDS = 600.0
+# The statuses of a table some of whose rows were lost, or of whose drawings some weren't read.
+LOST_ROWS, ROWS_NOT_READ = 1, 15
 
 
 def add_arguments(parser: argparse.ArgumentParser) -> None:
@@ -88,8 +95,15 @@ def run(arguments: argparse.Namespace) -> int:
         say(f"draft table: stopped; the rows that are there are kept in {table.rows.state}, and the same command goes on from here")
         raise
     write_result(written(table, arguments.form), arguments.output)
-    lost = table.lost_ones()
+    lost, verdicts = table.lost_ones(), table.verdicts()
     if lost:
         first = f"{places[lost[0]].name}: {table.why_lost(lost[0])}"
         say(f"draft table: {many(len(lost), 'row')} lost, the first of {first}; the same command asks again")
-    return 1 if lost else 0
+    say(f"draft table: {counted(verdicts)}")
+    return LOST_ROWS if lost else ROWS_NOT_READ if verdicts[Kind.NOT_READ.value] else 0
+
+
+def counted(verdicts: Counter[str]) -> str:
+    """How many drawings have each verdict, in words."""
+    its = [f"{verdicts[kind.value]:,} {kind.value.replace('_', ' ')}" for kind in Kind if verdicts[kind.value]]
+    return f"{many(sum(verdicts.values()), 'drawing')}: {', '.join(its)}"

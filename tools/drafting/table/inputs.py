@@ -3,6 +3,7 @@ import csv
 import itertools
 import json
 import os
+import stat
 from collections.abc import Iterable, Iterator
 from typing import Any, BinaryIO, NamedTuple
 
@@ -10,18 +11,26 @@ from ..core.messages import Refused, say
 from ..report import record
 from .rows import Row
 
-COLUMNS = ("file", "status", "solids", "rounds", "seconds", "message")
+COLUMNS = ("file", "status", "verdict", "solids", "rounds", "seconds", "message")
 FORMS = ("csv", "json")
+# What a spreadsheet takes for the beginning of a formula; such a cell gets a quotation mark before it, by which it is a text.
+FORMULAS = ("=", "+", "-", "@", "\t", "\r")
+# How a line of CSV ends as it is made: so cells that have one of these characters are quoted.
+END = "\r\n"
+# Kinds of files that aren't read, since whoever reads them may wait for ever.
+ODD_FILES = ((stat.S_ISFIFO, "a pipe"), (stat.S_ISSOCK, "a socket"), (stat.S_ISCHR, "a device"), (stat.S_ISBLK, "a device"), (stat.S_ISDIR, "a folder"))
 
 
 class Place(NamedTuple):
-    """A drawing: the name that the table has for it, its file, the size and time of this, and what is wrong with it."""
+    """A drawing: the name that the table has for it, its file, the size and time of this, why it can't be looked at now, and why it is no file that
+    may be read at all."""
 
     name: str
     path: str
     size: int = 0
     time: int = 0
     trouble: str = ""
+    unfit: str = ""
 
 
 def places_of(given: list[str], named: BinaryIO | None, by_null: bool) -> list[Place]:
@@ -36,11 +45,24 @@ def places_of(given: list[str], named: BinaryIO | None, by_null: bool) -> list[P
 
 
 def place_of(name: str, path: str) -> Place:
+    """A drawing by the name that the table has for it, and its path."""
     try:
         told = os.stat(path)
     except (OSError, ValueError) as failure:
+        if is_dangling(path):
+            return Place(name, path, unfit=f"not read: a link to {os.readlink(path)}, which isn't there")
         return Place(name, path, trouble=f"can't be read: {getattr(failure, 'strerror', failure)}")
+    if kind := next((kind for is_of, kind in ODD_FILES if is_of(told.st_mode)), ""):
+        return Place(name, path, unfit=f"not read: {kind}, and no file")
     return Place(name, path, told.st_size, told.st_mtime_ns)
+
+
+def is_dangling(path: str) -> bool:
+    """Whether a path is that of a link to what isn't there."""
+    try:
+        return os.path.islink(path) and not os.path.exists(path)
+    except ValueError:
+        return False
 
 
 def names_of(given: list[str], named: BinaryIO | None, by_null: bool) -> Iterator[tuple[str, str]]:
@@ -52,18 +74,19 @@ def names_of(given: list[str], named: BinaryIO | None, by_null: bool) -> Iterato
         elif os.path.isdir(word):
             folder, before = os.path.abspath(word), "" if len(given) == 1 else word
             yield from ((os.path.join(before, file), os.path.join(folder, file)) for file in sorted(files_in(folder)))
-        elif os.path.exists(word):
+        elif os.path.lexists(word):
             yield word, os.path.abspath(word)
         else:
             raise Refused(f"{word} is no folder and no file")
 
 
 def files_in(folder: str) -> Iterator[str]:
-    """The DXF files and documents of FreeCAD in a folder and below it, by their names within it. What can't be looked into is told."""
+    """What is named as a DXF file or a document of FreeCAD in a folder and below it, by the names within it: links, pipes and the like too, which get a
+    row. What can't be looked into is told."""
     for within, _, files in os.walk(folder, onerror=left_out):
         for file in files:
             path = os.path.join(within, file)
-            if file.lower().endswith((".dxf", ".fcstd")) and os.path.isfile(path):
+            if file.lower().endswith((".dxf", ".fcstd")):
                 yield os.path.relpath(path, folder)
 
 
@@ -89,12 +112,17 @@ class Line:
 
     @staticmethod
     def write(text: str) -> bytes:
-        return text.encode("utf-8", "surrogateescape")
+        return text.removesuffix(END).encode("utf-8", "surrogateescape") + b"\n"
 
 
 def in_lines(rows: Iterable[Row]) -> Iterator[bytes]:
-    lines: Any = csv.writer(Line, lineterminator="\n")
-    return (lines.writerow(cells) for cells in itertools.chain([COLUMNS], map(cells_of, rows)))
+    lines: Any = csv.writer(Line, lineterminator=END)
+    return (lines.writerow(map(harmless, cells)) for cells in itertools.chain([COLUMNS], map(cells_of, rows)))
+
+
+def harmless(cell: str) -> str:
+    """A cell of CSV that no spreadsheet takes for a formula, whatever a drawing is named."""
+    return f"'{cell}" if cell.startswith(FORMULAS) else cell
 
 
 def in_columns(rows: Iterable[Row]) -> Iterator[bytes]:

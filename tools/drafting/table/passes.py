@@ -14,7 +14,7 @@ from ..dxf.reader import MOST_BYTES
 from .handover import HERE
 from .inputs import Place
 from .machines import Carrier, Machine, fit, told_name
-from .rows import FAILED, LOST, REFUSED, Key, Row, Rows, key_of
+from .rows import FAILED, LOST, NOT_READ, REFUSED, Key, Row, Rows, key_of
 from .worker import CHANGED, Drawing, text_of
 
 # The most drawings of a batch in each pass; the batches that few drawings are cut into, and how many of them a processor here has at least,
@@ -70,7 +70,7 @@ class Table:
 
     def numbers(self, at: int) -> list[int]:
         """The drawings that a pass is for."""
-        numbers = [number for number in range(len(self.places)) if number not in self.lost]
+        numbers = [number for number, place in enumerate(self.places) if number not in self.lost and not place.unfit]
         return [number for number in numbers if not at or self.is_cut(number)]
 
     def is_cut(self, number: int) -> bool:
@@ -82,19 +82,27 @@ class Table:
 
     def __iter__(self) -> Iterator[Row]:
         for number, place in enumerate(self.places):
+            if place.unfit:
+                yield {"file": place.name, **unanswered(REFUSED, place.unfit)}
+                continue
             key = self.last_key(number)
-            yield {"file": place.name, **((self.rows.get(key) if key else None) or lost_row(self.why_lost(number)))}
+            yield {"file": place.name, **((self.rows.get(key) if key else None) or unanswered(LOST, self.why_lost(number)))}
 
     def lost_ones(self) -> list[int]:
         """The drawings whose rows are lost."""
-        return [number for number in range(len(self.places)) if self.last_key(number) is None]
+        return [number for number, place in enumerate(self.places) if not place.unfit and self.last_key(number) is None]
+
+    def verdicts(self) -> Counter[str]:
+        """How many rows have each verdict."""
+        return Counter(row["verdict"] for row in self)
 
     def why_lost(self, number: int) -> str:
         return self.lost.get(number, "no answer came back")
 
 
-def lost_row(why: str) -> Row:
-    return {"status": LOST, "solids": None, "rounds": None, "seconds": 0.0, "message": why}
+def unanswered(status: str, why: str) -> Row:
+    """The row of a drawing that nothing was asked about, and why."""
+    return {"status": status, "verdict": NOT_READ, "solids": None, "rounds": None, "seconds": 0.0, "message": why}
 
 
 class Pass:
@@ -151,7 +159,7 @@ class Pass:
         long = [number for number in due if self.table.places[number].size > MOST_BYTES]
         for number in long:
             message = f"the file has {self.table.places[number].size:,} bytes, more than {MOST_BYTES:,}"
-            self.table.take(number, self.at, {"status": REFUSED, "solids": None, "rounds": None, "seconds": 0.0, "message": message})
+            self.table.take(number, self.at, unanswered(REFUSED, message))
         passed = set(long)
         return [number for number in due if number not in passed]
 

@@ -8,6 +8,7 @@ import pathlib
 from typing import Any
 
 from ..core.messages import Refused, say
+from ..core.verdict import Kind
 from ..messages.controls import option
 from ..recon.process import CUT_NODES, CUT_SOLIDS
 
@@ -15,10 +16,12 @@ Row = dict[str, Any]
 # What names a row: 16 bytes, which the file has as figures.
 Key = bytes
 # What the table needs of a row; the record is that of `draft solve --json`, and there is none of one without an answer.
-KEPT = ("status", "solids", "rounds", "seconds", "message", "record")
+KEPT = ("status", "verdict", "solids", "rounds", "seconds", "message", "record")
 # The statuses of rows without an answer: `draft` takes no such drawing; its process didn't end well; its file couldn't be read, or was
 # changed meanwhile, and that row is never kept.
 REFUSED, FAILED, LOST = "refused", "failed", "lost"
+# The verdict of such rows, as of those with a fault.
+NOT_READ = Kind.NOT_READ.value
 
 
 def key_of(*told: object) -> Key:

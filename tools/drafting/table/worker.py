@@ -32,13 +32,16 @@ from typing import Any, NamedTuple, NoReturn
 from ..core import messages, provenance
 from ..core.messages import Refused
 from ..core.notes import Note
+from ..core.verdict import Kind, Verdict
 from ..dxf import reader
+from ..messages import verdict as in_words
 from ..recon import process as program
 from ..report import record as records
 from ..rounds.features import given_in
 from ..solve import pipeline
+from ..solve.verdict import verdict_of
 from . import handover, prefork
-from .rows import FAILED, LOST, REFUSED, Row
+from .rows import FAILED, LOST, NOT_READ, REFUSED, Row
 
 NAME = "batch"
 HELP = "rows of `draft table`, which runs it"
@@ -104,19 +107,16 @@ def options() -> argparse.ArgumentParser:
 
 # ---- one drawing
 
-def message_of(asked: pipeline.Asked, record: records.Record, warnings: list[str]) -> str:
-    """What is said of an answer, by its record."""
-    if record["fault"]:
-        return "; ".join([record["fault"]["message"], *warnings])
-    if asked.rounds:
-        told = [f"volume {asked.rounded_volume(asked.kept[0])}"] if len(asked.kept) == 1 else []
-        told += [*asked.rounds.outcome[:1], *asked.rounds.cause, *asked.rounds.choice[:1]]
-        return "; ".join([*told, *warnings])
-    head = asked.run.text.partition("\n")[0]
-    said = [f"volume {pipeline.measure(Fraction(it['volume']), asked.cubic())}" for it in record["solids"] if record["listed"] == 1]
+def message_of(asked: pipeline.Asked, its: Verdict, record: records.Record, warnings: list[str]) -> str:
+    """What is said of an answer beside its verdict: the volume of one solid, and what leaves it open."""
+    if its.kind is Kind.NOT_READ:
+        return "; ".join([its.message, *warnings])
+    volume = ""
+    if its.count == 1:
+        volume = asked.rounded_volume(asked.kept[0]) if asked.rounds else pipeline.measure(Fraction(record["solids"][0]["volume"]), asked.cubic())
+    said = [f"volume {volume}"] if volume else []
     said += [f"two views, without {asked.missing}"] if asked.missing else []
-    said += [f"{head}: {'there are' if 'solids' in head else 'there may be'} more"] if record["limits"]["hit"] else []
-    return "; ".join([*said, *warnings])
+    return "; ".join([*said, *(text.removesuffix(".") for text in in_words.reasons(its)), *warnings])
 
 
 def row_of(folder: str, path: str, arguments: argparse.Namespace) -> Row:
@@ -127,9 +127,11 @@ def row_of(folder: str, path: str, arguments: argparse.Namespace) -> Row:
         os.chdir(folder)
         asked = pipeline.ask(path, arguments, notes.append)
         given, record = given_in(asked.lines), records.record(asked, named, notes, records.LISTED, with_faces=False)
-        message = message_of(asked, record, [str(note) for note in notes if note.kind == "warning"])
+        its = verdict_of(asked)
+        message = message_of(asked, its, record, [str(note) for note in notes if note.kind == "warning"])
         solids = None if record["fault"] else record["listed"]
-        return {"status": asked.run.status, "solids": solids, "rounds": len(given.squared) if given else 0, "message": message, "record": record}
+        return {"status": asked.run.status, "verdict": its.kind.value, "solids": solids, "rounds": len(given.squared) if given else 0, "message": message,
+                "record": record}
     except program.Failed as failure:
         return {"status": FAILED, "message": str(failure), "record": records.without_answer(named, failure, notes)}
     except Refused as refusal:
@@ -247,7 +249,7 @@ class Workers:
         if row["status"] == FAILED and not is_new and time.monotonic() - began < self.arguments.seconds:
             return self.row(drawing, folder)
         told = {"number": drawing.number, "seconds": round(time.monotonic() - began, 2), "machine": MACHINE}
-        return {"solids": None, "rounds": None, **row, **told}
+        return {"verdict": NOT_READ, "solids": None, "rounds": None, **row, **told}
 
     def close(self) -> None:
         """Ends the worker: the next drawing has a new one."""
@@ -282,7 +284,7 @@ def rows_of(lines: list[bytes], room: str) -> Generator[Row, None, None]:
             if drawing.data is not None and row["status"] == LOST:
                 raise Refused(f"what came along {row['message']}")
             if drawing.data is None and row["status"] != LOST and not drawing.is_unchanged():
-                row.update(status=LOST, solids=None, message=CHANGED)
+                row.update(status=LOST, verdict=NOT_READ, solids=None, message=CHANGED)
             yield row
 
 
