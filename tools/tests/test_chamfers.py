@@ -264,6 +264,8 @@ class Words(test_rounds.InAFolder):
         from drafting.rounds import verify as kept
         from drafting.sheet import pipeline
         from drafting.solve import readings as answering
+        from drafting.solve.pipeline import Asked
+        from drafting.solve.verdict import verdict_of
         from drafting.recon.answer import Solid
         from drafting.dxf.drawing import Origin
 
@@ -278,8 +280,12 @@ class Words(test_rounds.InAFolder):
         for number, volume in enumerate((5, 6, 5), 1):
             readings = answering.with_one(readings, answered(number, volume))
         self.assertEqual((len(readings.kept), readings.elsewhere, readings.tried), (2, 1, 3))
-        self.assertIn("kept in 2 readings: pages show those of the first one, reading 1", readings.told()[-1])
-        self.assertIn("2 solids made of boxes and these chamfers, each standing free, have these views", html.head_told("whole 1 nodes 1 blocks 1", 1, "", readings))
+        head = "whole 1 nodes 1 blocks 1"
+        its = verdict_of(Asked(b"", [], 0, Origin("mm", Fraction(1), False), process.Run(0, f"{head}\n", 0.0), None, readings))
+        told = html.head_told(its, head, readings)
+        self.assertIn("2 solids match this drawing.", told)
+        self.assertIn("Solids come of 2 readings of the sheet. Pages show those of the first one.", told)
+        self.assertIn("boxes and these chamfers, each standing free", told)
 
     def test_a_chamfer_is_written_and_read(self) -> None:
         given = Given([], {}, {}, [], [], [], chamfers=(Chamfer("SIDE", Slant((32.0, 8.0), (12.0, 36.0))),))

@@ -28,6 +28,7 @@ from ..rounds.features import Chamfer, Given, given_in
 from ..rounds.rounds import Quarter, Slant
 from ..rounds.tangent_edges import shared_axis
 from ..solve import pipeline
+from ..solve.verdict import verdict_of
 from . import edits, least_edit, further_views
 from .edits import Change, Judged, Kind
 
@@ -363,7 +364,7 @@ def told_of(
 def rounds_told(asked: pipeline.Asked) -> list[str]:
     """What is told of a sheet with rounds of whose squared drawing there are solids."""
     assert asked.rounds
-    rows, count = asked.rounds.told(), len(asked.kept)
+    rows, count = [*(one.outcome.told() if (one := asked.rounds.shown) else []), *(it.sentence for it in verdict_of(asked).reasons)], len(asked.kept)
     return [f"Nothing is wrong: {many(count, 'solid')} {'has' if count == 1 else 'have'} {asked.views}." if count else "No solid is kept.", *rows]
 
 

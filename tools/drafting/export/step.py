@@ -13,6 +13,7 @@ from typing import Any, NamedTuple
 from ..core.messages import Refused, many, say, write_result
 from ..dxf.drawing import MILLIMETRES, Origin, lines_of, origin_of, views_of
 from ..explain.settle import of_first_reading, settled_by
+from ..messages import verdict as in_words
 from ..messages.controls import command, option
 from ..projection.draw import Sheet, sheet_of
 from ..recon import faults, process
@@ -20,6 +21,7 @@ from ..recon.answer import FAULT, Answer, Solid, answer_of, text_of, turned_back
 from ..rounds.features import given_in
 from ..rounds.verify import Kept
 from ..solve import pipeline
+from ..solve.verdict import verdict_of
 
 NAME = "step"
 HELP = "save the solids of a drawing or a sheet as STEP or BREP files, by FreeCAD"
@@ -104,10 +106,11 @@ def of_solid(solid: Solid, per_unit: Fraction) -> Any:
 def rounded_shapes(asked: pipeline.Asked) -> dict[int, Shape]:
     """The shapes of a sheet with rounds."""
     assert asked.rounds
-    first = next(iter(asked.rounds.kept), asked.rounds.first)
+    its = verdict_of(asked)
+    told = [*in_words.reasons(its), *in_words.details(asked.rounds)]
     if not asked.kept:
-        raise Refused(" ".join(["no solid is kept once it is rounded back.", *asked.rounds.outcome, *asked.rounds.cause]))
-    for text in (*asked.rounds.told(), *(f"warning: {it}" for it in (first.given.doubts if first else []))):
+        raise Refused(" ".join([in_words.headline(its), *told]))
+    for text in told:
         say(f"draft step: {text}")
     answer = asked.answer()._replace(solids=of_first_reading(asked))
     warn_ambiguous(len(asked.kept), turned_back(answer) if asked.origin.mirrored else answer, asked.sheet())
@@ -135,7 +138,7 @@ def shapes_of(arguments: argparse.Namespace) -> Shapes:
     unit = asked.origin.unit
     if asked.rounds:
         shapes = rounded_shapes(asked)
-        return Shapes(f"{many(len(shapes), 'solid')} {asked.rounds.made}", shapes, len(shapes), unit)
+        return Shapes(f"{many(len(shapes), 'solid')}. {in_words.scope(asked.rounds)}", shapes, len(shapes), unit)
     answer = asked.answer()
     warn_ambiguous(len(answer.solids), answer, asked.sheet())
     solids = dict(enumerate(answer.solids, 1))

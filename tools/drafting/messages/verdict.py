@@ -1,19 +1,14 @@
 """The English of a verdict, for every place that tells one: a headline, each reason that leaves it open, and what to do; and what came of a sheet
 with rounds, beside its solids."""
-from collections.abc import Iterator
-
 from ..core.messages import many
 from ..core.verdict import Doubt, Kind, Reason, Verdict
 from ..recon import process
-from ..rounds.verify import Outcome
 from ..solve.readings import Readings
 from .controls import command, option
 
 WORDS = {Kind.UNIQUE: "Unique", Kind.AMBIGUOUS: "Ambiguous", Kind.NOT_DECIDED: "Not decided", Kind.IMPOSSIBLE: "Impossible", Kind.NOT_READ: "Not read"}
 # What FreeCAD is installed by.
 FREECAD = "apt-get install --no-install-recommends freecad-python3"
-# How many solids that differ from the sheet are told one by one.
-MOST_TOLD = 3
 
 
 # ---- the verdict
@@ -115,19 +110,7 @@ def scope(rounds: Readings) -> str:
 def details(rounds: Readings) -> list[str]:
     """What came of the solids of the squared-off drawing, in sentences."""
     one = rounds.shown
-    return [] if one is None else [*came_of(one.outcome, len(rounds.kept)), *([scope(rounds)] if rounds.kept else [])]
-
-
-def came_of(outcome: Outcome, readings: int) -> Iterator[str]:
-    """What came of one reading's solids; in so many readings some are kept."""
-    if outcome.kept and outcome.is_compared:
-        them = "the solid, and its views are" if len(outcome.kept) == 1 else f"each of {many(len(outcome.kept), 'solid')}, and their views are"
-        yield f"Checked: FreeCAD redrew {them} the sheet's."
-    if readings > 1:
-        yield f"Solids come of {readings:,} readings of the sheet. Pages show those of the first one."
-    gone = [f"{outcome.lost:,} can't be rounded again"] if outcome.lost else []
-    gone += [f"{len(outcome.others):,} {'differs' if len(outcome.others) == 1 else 'differ'} from the sheet"] if outcome.others else []
-    if gone or not outcome.kept:
-        left = f" Of these {' and '.join(gone)}." if gone else ""
-        yield f"With its {outcome.kinds} squared off the drawing has {many(outcome.listed, 'solid')}.{left}"
-    yield from (f"  {text}" for text in outcome.others[:MOST_TOLD])
+    if one is None:
+        return []
+    more = [f"Solids come of {len(rounds.kept):,} readings of the sheet. Pages show those of the first one."] if len(rounds.kept) > 1 else []
+    return [*one.outcome.told(), *more, *([scope(rounds)] if rounds.kept else [])]

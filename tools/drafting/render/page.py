@@ -133,7 +133,7 @@ def checked_choices(answer: Answer, its: Blocks) -> list[str]:
 def rounds_of(lines: list[str], text: str, units: Units) -> readings.Readings | None:
     """What comes of the solids of an answer, where rounds of its drawing were squared off."""
     given, drawn = given_in(lines), sheet.Drawn("\n".join(lines), units.decimals, units.origin)
-    return readings.of_drawing(drawn, given, lambda *_: process.Run(process.WHOLE, text, 0.0)) if given else None
+    return readings.of_drawing(drawn, given, process.Run(process.WHOLE, text, 0.0)) if given else None
 
 
 def answer_told(lines: list[str], text: str, its: Blocks | None, with_sections: bool = False) -> Events:

@@ -16,6 +16,8 @@ from .restore import Drawn, volume_of, ways_of
 
 # Of how many solids of a squared drawing FreeCAD makes shapes.
 MOST = 200
+# How many solids that differ from the sheet are told one by one.
+MOST_TOLD = 3
 LACKING = "not compared with the sheet, since FreeCAD isn't there: apt-get install --no-install-recommends freecad-python3"
 
 
@@ -57,16 +59,17 @@ class Outcome(NamedTuple):
     reasons: tuple[Reason, ...] = ()
 
     def told(self) -> list[str]:
-        """In words, beside the solids that are kept."""
-        squared = f"The drawing with its {self.kinds} squared off has {many(self.listed, 'solid')}"
-        left = [f"{self.lost} can't be rounded back"] if self.lost else []
-        left += [f"{len(self.others)} {'looks' if len(self.others) == 1 else 'look'} otherwise than the sheet once rounded back"] if self.others else []
-        rows = [squared + (f", of which {' and '.join(left)}." if left else ".")]
-        rows += [f"  {text}" for text in self.others[:3]]
-        if self.unseen:
-            rows.append(f"{many(self.unseen, 'solid')} of the squared drawing {'was' if self.unseen == 1 else 'were'} not looked at (more than {MOST}).")
-        return [*rows, *(["Each that is told was drawn again by FreeCAD and compared with the sheet: the same."] if self.is_compared and self.kept else []),
-                *([LACKING[0].upper() + LACKING[1:] + "."] if not self.is_compared else [])]
+        """In words, beside the solids that are kept: whether these were compared with the sheet, and what became of the others."""
+        rows = []
+        if self.kept and self.is_compared:
+            them = "the solid, and its views are" if len(self.kept) == 1 else f"each of {many(len(self.kept), 'solid')}, and their views are"
+            rows.append(f"Checked: FreeCAD redrew {them} the sheet's.")
+        gone = [f"{self.lost:,} can't be rounded again"] if self.lost else []
+        gone += [f"{len(self.others):,} {'differs' if len(self.others) == 1 else 'differ'} from the sheet once rounded again"] if self.others else []
+        if gone or not self.kept:
+            left = f" Of these {' and '.join(gone)}." if gone else ""
+            rows.append(f"With its {self.kinds} squared off the drawing has {many(self.listed, 'solid')}.{left}")
+        return [*rows, *(f"  {text}" for text in self.others[:MOST_TOLD])]
 
 
 def tools() -> tuple[Any, Any] | None:

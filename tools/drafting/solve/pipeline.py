@@ -185,8 +185,8 @@ def ask(path: str | None, arguments: argparse.Namespace, tell: Tell, command: tu
             tell(notes.found(f"two views, without {missing}"))
     rounds = None
     if given and not fault:
-        ask_once = (lambda *_: run) if words == solve_words(arguments, decimals) else ask_all(arguments)
-        rounds = readings.of_drawing(sheet.Drawn(data.decode(errors="surrogateescape"), decimals, origin_of(lines)), given, ask_once)
+        solved = run if words == solve_words(arguments, decimals) else ask_all(arguments)(data, decimals)
+        rounds = readings.of_drawing(sheet.Drawn(data.decode(errors="surrogateescape"), decimals, origin_of(lines)), given, solved)
     return Asked(data, lines, decimals, origin_of(lines), run, None, rounds, None, arguments.sections)
 
 

@@ -145,9 +145,8 @@ def open_in(one: Answered) -> tuple[Reason, ...]:
     return tuple(left_open.of_reading(one.head, one.given, one.outcome, one.drawn.reasons))
 
 
-def of_drawing(drawn: pipeline.Drawn, given: Given, ask: Asker) -> Readings:
-    """What comes of a drawing that was squared off before."""
-    run = ask(drawn.text.encode(errors="surrogateescape"), drawn.decimals)
+def of_drawing(drawn: pipeline.Drawn, given: Given, run: process.Run) -> Readings:
+    """What comes of a drawing that was squared off before, of which recon had this to say."""
     if run.status == process.FAULT:
         return Readings([], None, 0, 1)
     one = answered(drawn, given, run)
