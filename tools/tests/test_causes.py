@@ -251,4 +251,4 @@ class OnTheSheet(unittest.TestCase):
                     doc.saveas(file)
                     left_told = re.search(r"with .* (\d+) solids are left|(told by)", ended.out)
                     assert left_told
-                    self.assertIn(" has these views" if left_told[2] else f"{left_told[1]} solids have", draft("solve", file, "--angle", angle).out)
+                    self.assertIn("one solid matches" if left_told[2] else f"{left_told[1]} solids match", draft("solve", file, "--angle", angle).out)

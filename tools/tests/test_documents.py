@@ -462,7 +462,7 @@ class Files(unittest.TestCase):
             in_a_group(one, quartered())
             path = one.saved(folder)
             for words, status, out in (
-                (("sheet", path), 0, "SECTION"), (("solve", path, "--expect", 3), 0, "3 solids have these views"),
+                (("sheet", path), 0, "SECTION"), (("solve", path, "--expect", 3), 0, "3 solids match this drawing"),
                 (("why", path), 0, "Nothing is wrong"), (("settle", path, "--meant", 1), 0, "Checked: of the drawing with these lines"),
                 (("judge", path), 0, "The same: 3 solids by clingo"), (("step", path, f"{folder}/s.step"), 0, "s_3.step volume"),
                 (("stl", path, 2), 0, "facet"), (("clean", path), 0, "ENTITIES"), (("follow", path), 0, '"how":"whole"'),

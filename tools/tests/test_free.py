@@ -148,7 +148,7 @@ class Causes(test_rounds.InAFolder):
         for upright in (wall, parts.filleted(wall, 6, 1, lambda it: it.z > 24)):
             parts.sheet_of(box(0, 0, 0, 60, 40, 10).fuse(upright).cut(cylinder(2, (20, 15), 0, 10, 4)), self.file, without_a_step)
             ended = draft("solve", self.file)
-            self.assertIn("No solid is found", ended.out)
+            self.assertIn("Not decided: no solid was found", ended.out)
             self.assertIn("The cause isn't known, since the other views confirm each curve: ", ended.out)
 
     def test_a_suspect_is_written_and_read(self) -> None:

@@ -154,13 +154,13 @@ class Solids(InAFolder):
     def test_layers_that_name_a_view_otherwise(self) -> None:
         self.file.write_text(FROM_LEFT.read_text().replace("\nLEFT\n", "\nLEFT_VIEW\n"))
         ended = draft("solve", self.file)
-        self.assertIn("One solid has these views", ended.out)
+        self.assertIn("Unique: one solid matches this drawing.", ended.out)
         self.assertIn("the views by the names of layers or blocks: FRONT, LEFT, SIDE, TOP", ended.said)
 
     def test_events_and_page_have_the_view(self) -> None:
         events = [json.loads(line) for line in draft("follow", FROM_LEFT).out.splitlines()]
         self.assertIn('data-told="LEFT, ', next(event["html"] for event in events if event["kind"] == "drawing"))
-        self.assertIn("One solid has these views.", next(event["html"] for event in events if event["kind"] == "end"))
+        self.assertIn("One solid matches this drawing.", next(event["html"] for event in events if event["kind"] == "end"))
 
     def test_what_settle_says_is_checked(self) -> None:
         found = process.run(process.find(), ["solve"], (EXAMPLES / "quartered_cube.dxf").read_bytes()).text

@@ -10,7 +10,9 @@ from typing import Any
 from drafting.cli import commands
 from drafting.cli.solve import rounded_told
 from drafting.core.messages import Refused
+from drafting.core.verdict import Doubt, Kind
 from drafting.solve import pipeline
+from drafting.solve.verdict import verdict_of
 
 from .support import draft, in_words, needs_long, needs_module, needs_program
 
@@ -272,7 +274,7 @@ class Ambiguous(InAFolder):
                 assert asked.rounds
                 right = sum(parts.are_same(one.shape, shape) for one in asked.kept)
                 self.assertEqual((right, len(asked.kept)), (1, count))
-                self.assertRegex(rounded_told(asked, asked.rounds, 9)[0], f"^{count} solids made of boxes and these rounds, each standing free, have these views")
+                self.assertEqual((verdict_of(asked).kind, verdict_of(asked).count), (Kind.AMBIGUOUS, count))
 
 
 class Words(InAFolder):
@@ -281,10 +283,10 @@ class Words(InAFolder):
         parts.sheet_of(shape, self.file)
         ended = draft("solve", self.file)
         self.assertEqual(ended.status, 0, ended.said)
-        self.assertIn("One solid made of boxes and these rounds, each standing free, has these views: the search was whole.\n", ended.out)
+        self.assertTrue(ended.out.startswith("Unique: one solid matches this drawing.\n"), ended.out)
+        self.assertIn("This speaks of parts made of boxes and these rounds, each standing free. It is tested, not proved.\n", ended.out)
         self.assertIn("solid 1: 50 mm by 40 mm by 14 mm, volume 20,000 - 186 pi = 19,415.66 mm³\n", ended.out)
-        self.assertIn("drawn again by FreeCAD and compared with the sheet: the same", ended.out)
-        self.assertNotIn("One solid has these views", ended.out)
+        self.assertIn("Checked: FreeCAD redrew the solid, and its views are the sheet's.\n", ended.out)
         drawing = self.file.with_name("squared.dxf")
         self.assertEqual(draft("sheet", self.file, "-o", drawing).status, 0)
         self.assertIn("999\ndraft round TOP 20 20 5 1234\n", drawing.read_text())
@@ -310,7 +312,7 @@ class Why(InAFolder):
         for line in [it for it in space.query("LINE") if it.dxf.linetype == "HIDDEN" and it.dxf.start.x == it.dxf.end.x == 105]:
             space.delete_entity(line)
         doc.saveas(self.file)
-        self.assertIn("No solid is found", draft("solve", self.file).out)
+        self.assertIn("Not decided: no solid was found", draft("solve", self.file).out)
         ended = draft("why", "--runs", 40, "--processes", 2, self.file)
         self.assertEqual(ended.status, 0, ended.said)
         self.assertIn("Its rounds are squared off", ended.out)
@@ -350,16 +352,12 @@ class TangentEdges(InAFolder):
         asked = self.asked()
         self.exact(shape, asked)
         assert asked.rounds
-        told = rounded_told(asked, asked.rounds, 9)
-        self.assertIn("has these views, as its lines are read here: the search was whole.", told[0])
-        self.assertRegex("\n".join(told), r"of \d+ readings 1 was tried\.\nThis is number 1; other solids may have the sheet in the others")
+        self.assertGreater(asked.rounds.among, 1)
+        self.assertEqual((asked.rounds.tried, verdict_of(asked).reasons, verdict_of(asked).kind), (asked.rounds.among, (), Kind.UNIQUE))
         self.assertTrue(any("taken as a tangent edge" in it for it in self.said), self.said)
-        asked = self.asked("--all-readings")
-        self.exact(shape, asked)
-        assert asked.rounds
-        told = rounded_told(asked, asked.rounds, 9)
-        self.assertIn("has these views: the search was whole.", told[0])
-        self.assertRegex("\n".join(told), r"of (\d+) readings \1 were tried\.\nNo other solid is kept in any of them")
+        one = self.asked("--reading", 1)
+        self.assertEqual([it.doubt for it in verdict_of(one).reasons], [Doubt.READINGS_NOT_TRIED])
+        self.assertEqual(draft("solve", self.file, "--reading", 1, "--expect", 1).status, 12)
 
     def test_what_lies_dashed_under_them_is_of_rounds_or_of_others(self) -> None:
         # Two rounded corners in line, whose edges lie one under the other, a wall with two more, and a hole that ends where the first ones begin.
@@ -371,12 +369,11 @@ class TangentEdges(InAFolder):
     def test_time_is_limited(self) -> None:
         shape = filleted(box(0, 0, 0, 40, 30, 8), 6, 2, lambda point: point.x > 39).cut(cylinder(2, (12, 15), 0, 8, 4))
         parts.sheet_of(shape, self.file, groups=(0, 1, 3, 5, 8))
-        asked = self.asked("--all-readings", "--reading-seconds", 0)
+        asked = self.asked("--reading-seconds", 0)
         self.exact(shape, asked)
         assert asked.rounds
-        told = "\n".join(rounded_told(asked, asked.rounds, 9))
-        self.assertIn("as its lines are read here", told)
-        self.assertRegex(told, r"of \d+ readings 1 was tried\.\nNo more were tried in 0 seconds \(--reading-seconds\)")
+        its = verdict_of(asked)
+        self.assertEqual((its.kind, dict(its.reasons[0].data)), (Kind.NOT_DECIDED, {"tried": 1, "among": asked.rounds.among, "seconds": 0.0}))
 
 
 class Changed(InAFolder):

@@ -58,9 +58,9 @@ class Asked(InAFolder):
             with self.subTest(layers):
                 self.quartered(layers)
                 self.assertEqual(self.choices("--sections"), wanted)
-                self.assertIn("One solid has these views and sections: the search was whole.", draft("solve", self.file, "--sections").out)
+                self.assertIn("Unique: one solid matches this drawing.", draft("solve", self.file, "--sections").out)
                 ended = draft("solve", self.file)
-                self.assertIn("3 solids have these views", ended.out)
+                self.assertIn("Not decided: at least 3 solids match this drawing", ended.out)
                 told = " and ".join(layers)
                 self.assertIn(f"warning: {told} {'was' if len(layers) == 1 else 'were'} not read: --sections has sections read\n", ended.said)
 

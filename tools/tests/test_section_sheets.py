@@ -8,15 +8,17 @@ import unittest
 from collections import Counter
 from collections.abc import Iterable
 
-from drafting.cli import commands, solve
+from drafting.cli import commands
 from drafting.core.messages import Refused
 from drafting.core.notes import tell_none
+from drafting.core.verdict import Kind
 from drafting.dxf.drawing import lines_within
 from drafting.explain import ruled_out
 from drafting.projection.draw import FRAMES, Cell
 from drafting.projection.sections import strokes_in_all
 from drafting.sheet import pipeline as sheet
 from drafting.solve import pipeline
+from drafting.solve.verdict import verdict_of
 
 from .cut_solids import Shown, area_of, planes_through, section_of, unit_cells, view_of
 from .made import pierced, random_solid
@@ -207,7 +209,7 @@ class SectionSheets(unittest.TestCase):
             with self.subTest(words):
                 arguments = PARSER.parse_args(["solve", str(self.file)])
                 asked = pipeline.ask(str(self.file), arguments, tell_none)
-                self.assertEqual(solve.told(asked, 1), ["No solid has these views and sections: the search was whole."])
+                self.assertEqual(verdict_of(asked).kind, Kind.IMPOSSIBLE)
                 self.assertEqual(ruled_out.told(asked, arguments)[0], "The views alone have 1 solid: what the sections show rules it out.")
 
     def test_two_sections(self) -> None:

@@ -57,7 +57,7 @@ class Table(Opened):
     def test_thirty_five_solids(self) -> None:
         """They are fixed, compared, told apart by further views, and saved."""
         self.drop_example("eight_voids")
-        self.assertIn("35 solids have these views", self.text(".told"))
+        self.assertIn("35 solids match this drawing", self.text(".told"))
         self.browser.until("!document.getElementById('settle').hidden", PATIENCE)
         rows = dict(self.value(ROWS))
         self.assertEqual([rows[view] for view in ("REAR", "LEFT", "BOTTOM")], [[1, 35]] * 3)
@@ -85,7 +85,7 @@ class Table(Opened):
         self.browser.close_tab()
         self.browser.open(self.saved / "eight_voids.html")
         self.assertEqual(self.value("[viewer.model.count, viewer.tiles.length]"), [35, 35])
-        self.assertIn("35 solids have these views", self.text(".told"))
+        self.assertIn("35 solids match this drawing", self.text(".told"))
 
     def test_the_file_of_draft_page_shows_what_a_suggestion_gives(self) -> None:
         file = self.folder / "half_hidden.html"
@@ -96,7 +96,7 @@ class Table(Opened):
         self.assertIn("solid would give 3 solids", self.text("#why"))
         self.press(button("Show what it gives", "#why"))
         self.assertEqual(self.value("viewer.model.count"), 3)
-        self.assertIn("3 solids have these views", self.text(".told"))
+        self.assertIn("3 solids match this drawing", self.text(".told"))
         self.press("document.querySelector('.given button')")
         self.assertEqual(self.value("[viewer.model.count, document.querySelectorAll('#why li').length]"), [0, 2])
 
@@ -139,7 +139,7 @@ class Table(Opened):
     @needs_long()
     def test_1225_solids(self) -> None:
         self.drop(self.made(2))
-        self.browser.until("/1,225 solids have/.test(document.querySelector('.told').innerText)", PATIENCE)
+        self.browser.until("/1,225 solids match/.test(document.querySelector('.told').innerText)", PATIENCE)
         self.assertEqual("1 to 64 of 1,225", self.text(".pager .shown"))
         began = time.monotonic()
         for _ in range(4):
@@ -164,10 +164,10 @@ class Table(Opened):
         self.browser.drop(EXAMPLES / "eight_voids.dxf")
         second = self.browser.visit(self.served.address)
         self.drop_example("clevis")
-        self.assertIn("One solid has", self.text(".told"))
+        self.assertIn("One solid matches", self.text(".told"))
         self.browser.turn_to(first)
         self.browser.until(IS_OVER, PATIENCE)
-        self.assertIn("35 solids have", self.text(".told"))
+        self.assertIn("35 solids match", self.text(".told"))
         self.browser.close_tab()
         self.browser.turn_to(second)
         self.assertEqual(self.value("viewer.model.count"), 1)
@@ -190,10 +190,10 @@ class Table(Opened):
             (self.folder / name).write_bytes(data)
             self.browser.drop(self.folder / name)
             words = "document.querySelector('.told').innerText + document.querySelector('.failed').innerText"
-            self.browser.until(f"/Not taken|has a fault/.test({words})", PATIENCE)
+            self.browser.until(f"/Not read|has a fault/.test({words})", PATIENCE)
             self.browser.until("document.querySelector('.progress').hidden", PATIENCE)
         self.drop_example("unit_cube")
-        self.assertIn("One solid has", self.text(".told"))
+        self.assertIn("One solid matches", self.text(".told"))
 
     @needs_module("ezdxf", "python3-ezdxf")
     def test_a_sheet_of_freecad(self) -> None:
@@ -203,11 +203,11 @@ class Table(Opened):
         whole, visible = exported(shape_of([("add", (0, 0, 0), (3, 2, 1)), ("add", (0, 1, 1), (1, 2, 2))]), self.folder)
         self.drop(whole)
         self.browser.until(IS_OVER, PATIENCE)
-        self.assertIn("Not taken", self.text(".told"))
+        self.assertIn("Not read", self.text(".told"))
         self.value("document.querySelector('.options').open = true")
         self.browser.give("document.querySelector('[name=second]')", visible)
         self.press(button("Read it so"))
         self.browser.until(f"({IS_OVER}) && viewer.model.count > 0", PATIENCE)
-        self.assertRegex(self.text(".told"), "solids? ha(s|ve) these views")
+        self.assertRegex(self.text(".told"), "(no|one|\\d+) solids? match(es)? this drawing")
         self.assertTrue(re.search("mm", self.text(".drawing")) or self.text(".said"))
         self.picture("freecad")

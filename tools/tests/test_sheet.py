@@ -214,7 +214,7 @@ class PassedOver(unittest.TestCase):
             file = self.file(folder)
             ended = draft("solve", file)
             self.assertEqual(ended.status, 0)
-            self.assertIn("One solid has these views", ended.out)
+            self.assertIn("Unique: one solid matches this drawing.", ended.out)
             self.assertIn("3 mm by 3 mm by 3 mm, volume 26 mm³", ended.out)
             self.assertIn("12 LINE on layer HIDDEN taken as hidden, by the name of layer HIDDEN", ended.said)
             ended = draft("solve", "--as-is", file)

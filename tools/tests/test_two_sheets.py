@@ -165,10 +165,10 @@ class Asked(InAFolder):
     def test_words_of_a_count(self) -> None:
         ended = draft("solve", self.without("SIDE", EXAMPLES / "clevis.dxf"))
         self.assertEqual(ended.status, 0, ended.said)
-        self.assertTrue(ended.out.startswith("Two views: one solid has them; the search was whole.\nsolid 1: 6 by 4 by 4, volume 41, "), ended.out)
+        self.assertTrue(ended.out.startswith("Unique: one solid matches this drawing.\nsolid 1: 6 by 4 by 4, volume 41, "), ended.out)
         self.assertIn("found: two views, without SIDE", ended.said)
         ended = draft("solve", self.without("FRONT"))
-        self.assertTrue(ended.out.startswith("Two views: 4 solids have them; the search was whole.\n"), ended.out)
+        self.assertTrue(ended.out.startswith("Ambiguous: 4 solids match this drawing. All are listed.\n"), ended.out)
         self.assertIn("`draft settle` says what FRONT would show of each", ended.said)
 
     def test_what_the_third_view_would_show(self) -> None:

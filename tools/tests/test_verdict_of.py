@@ -1,8 +1,10 @@
 """The verdict that is made of an answer: each doubt leaves it open, and nothing else does; and its words, which are the same everywhere."""
 import argparse
 import itertools
+import time
 import unittest
 from fractions import Fraction
+from typing import Any
 from unittest import mock
 
 from drafting.core import page as documents
@@ -13,6 +15,7 @@ from drafting.messages import verdict as in_words
 from drafting.recon.answer import Solid
 from drafting.recon.process import Run
 from drafting.render import html
+from drafting.rounds import verify
 from drafting.rounds.features import Chamfer, Given
 from drafting.rounds.rounds import Slant
 from drafting.rounds.verify import Kept, Outcome
@@ -35,7 +38,7 @@ def text_of(count: int, head: str = "") -> str:
         f"solid {number} choice 1 volume 1 faces 1\n{FACES}" for number in range(1, count + 1))
 
 
-def asked_of(text: str, lines: list[str] | None = None, **more: object) -> pipeline.Asked:
+def asked_of(text: str, lines: list[str] | None = None, **more: Any) -> pipeline.Asked:
     asked = pipeline.Asked(b"", lines or [], 0, ORIGIN, Run(0, text, 0.0))
     return asked._replace(**more)
 
@@ -46,7 +49,7 @@ def kept(number: int, doubt: str = "") -> Kept:
 
 def reading(
     number: int, among: int, solids: int, head: str = "", reasons: tuple[Reason, ...] = (), doubts: tuple[str, ...] = (), suspects: tuple[str, ...] = (),
-    **outcome: object,
+    **outcome: Any,
 ) -> Answered:
     """A reading of a sheet that keeps so many solids, of volumes of its own."""
     given = Given([], {}, {}, [], list(doubts), [], (number, among), CHAMFERS, (), suspects)
@@ -55,7 +58,7 @@ def reading(
     return Answered(drawn, given, Run(0, f"{head or 'whole 1 nodes 1 blocks 1'}\n", 0.0), its)
 
 
-def of_readings(*its: Answered, tried: int | None = None, **more: object) -> Verdict:
+def of_readings(*its: Answered, tried: int | None = None, **more: Any) -> Verdict:
     """The verdict on a sheet with these readings."""
     found = Readings([], None, 0, 1)
     for one in its:
@@ -168,7 +171,7 @@ class OfASheetWithRounds(unittest.TestCase):
 class Tried(unittest.TestCase):
     """Which readings are tried, and for how long."""
 
-    def tried(self, groups: int, kept_in: tuple[int, ...] = (0,), text: str = "", **words: object) -> tuple[Readings, int, int]:
+    def tried(self, groups: int, kept_in: tuple[int, ...] = (0,), text: str = "", **words: Any) -> tuple[Readings, int, int]:
         """The readings of a sheet with so many, the runs of recon and how many solids were looked at; one second passes at each look
         at the clock, which is before all but the first."""
         arguments = argparse.Namespace(**{"reading": None, "reading_seconds": None, "all_readings": False, **words})
@@ -189,8 +192,8 @@ class Tried(unittest.TestCase):
             return reading(given.reading[0], groups, int(given.reading[0] - 1 in kept_in)).outcome
 
         its = drawn(0)._replace(others=iter([sheet.Alike([drawn(number)], number + 1) for number in range(groups)]))
-        with (mock.patch.object(readings.time, "monotonic", side_effect=lambda: float(next(moments))), mock.patch.object(readings, "given_in", given_of),
-              mock.patch.object(readings.kept, "outcome", outcome)):
+        with (mock.patch.object(time, "monotonic", side_effect=lambda: float(next(moments))), mock.patch.object(readings, "given_in", given_of),
+              mock.patch.object(verify, "outcome", outcome)):
             return readings.readings(its, ask, arguments), len(runs), len(looks)
 
     def test_all_are_tried_within_20_seconds_once_a_solid_is_kept(self) -> None:

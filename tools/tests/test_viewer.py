@@ -57,10 +57,10 @@ class Viewer(Opened):
 
     def test_the_verdict_stands_first(self) -> None:
         """In a word and a sentence; with the first solid and Save it is seen without scrolling, on a phone with the first solid."""
-        rows = {"clevis": ("Unique", "One solid has", ""), "quartered_cube": ("Ambiguous", "3 solids have", "A section across x between 0 and 1 (area) would settle it."),
-                "eight_voids": ("Ambiguous", "35 solids have", "Say which is meant"),
-                "quartered_cube_half_hidden": ("Impossible", "No solid has", "Look at TOP (1, 1) to (1, 2) (line 221"),
-                "bracket_cut": ("Fault", "a group code has no value", "")}
+        rows = {"clevis": ("Unique", "One solid matches", ""), "quartered_cube": ("Ambiguous", "3 solids match", "A section across x between 0 and 1 (area) would settle it."),
+                "eight_voids": ("Ambiguous", "35 solids match", "Say which is meant"),
+                "quartered_cube_half_hidden": ("Impossible", "No solid matches", "Look at TOP (1, 1) to (1, 2) (line 221"),
+                "bracket_cut": ("Not read", "a group code has no value", "")}
         for name, (word, sentence, then) in rows.items():
             self.drop_example(name)
             self.assertEqual(self.text(".verdict .word"), word, name)
@@ -107,7 +107,7 @@ class Viewer(Opened):
     def test_any_solid_is_one_step_away(self) -> None:
         """Of 1,225 by its number, which becomes the one that is meant; by Before and Next and by arrow keys, which stay in sight."""
         self.drop(self.made(2))
-        self.browser.until("/1,225 solids have/.test(document.querySelector('.told').innerText)", PATIENCE)
+        self.browser.until("/1,225 solids match/.test(document.querySelector('.told').innerText)", PATIENCE)
         self.type_into(".pager input", "1000")
         self.assertIn(1000, self.numbers())
         self.assertEqual(self.value("viewer.state.meant"), 999)

@@ -110,4 +110,4 @@ class Offered(Opened):
         self.assertEqual(self.value("document.querySelector('.ways')"), None)
         self.drop_example("clevis")
         self.assertEqual(self.said(), ["", ""])
-        self.assertIn("One solid has", self.text(".told"))
+        self.assertIn("One solid matches", self.text(".told"))
