@@ -3,7 +3,7 @@ import functools
 import itertools
 import math
 from collections import defaultdict
-from collections.abc import Iterator, Mapping, Sequence
+from collections.abc import Callable, Iterator, Mapping, Sequence
 from typing import NamedTuple
 
 from ..dxf.curves import angle_of
@@ -18,6 +18,7 @@ from ..rounds.features import NOWHERE, Given, Squared, Stretch, times
 from ..rounds.regularize import TINY
 from ..rounds.restore import Drawn
 from ..rounds.rounds import is_level, is_straight
+from . import rays
 from .freecad import FreeCAD, Part, TechDraw
 from .project import DIRECTIONS, VISIBLE
 
@@ -201,6 +202,7 @@ def differences_in(view: str, shape: "Part.Shape", given: Given) -> Iterator[str
     told = joined_near(rows_of(its.lines, its.arcs, slants), rows)
     left = joined_near(rows_of([it.edge() for it in given.smooth if it.view == view], []), rows)
     smooth = functools.cache(functools.partial(smooth_rows, shape, view, least))
+    seen = functools.cache(functools.partial(rays.Rays, shape, view, least))
     for (x, y), one, other in bends.differing(its, bends.Panel(made.lines, made.arcs, bent)):
         yield f"{view}, on a curve at ({x:.6g}, {y:.6g}): the sheet has {one}, the solid {other}"
     for key in sorted(told.keys() | rows.keys()):
@@ -210,8 +212,18 @@ def differences_in(view: str, shape: "Part.Shape", given: Given) -> Iterator[str
             one, other = (style_at(row, middle) for row in both)
             # Where a round touches a wall the line that was left out as smooth is an edge, or lies over one.
             style = style_at([*both[0], *left.get(key, [])], middle)
-            if one != other and style != other and not (style == "solid" and other == "dashed" and is_solid_near(smooth(), key, middle)):
+            if one == other or style == other or style == "solid" and other == "dashed" and is_solid_near(smooth(), key, middle):
+                continue
+            if not is_as_rays_tell(one, other, seen, key, middle):
                 yield f"{view}, {place_told(key, low, high)}: the sheet has {one}, the solid {other}"
+
+
+def is_as_rays_tell(told: str, made: str, seen: Callable[[], rays.Rays], key: tuple[float, ...], at: float) -> bool:
+    """Whether a stretch is in the sheet's style where the shape is drawn with the other one: hidden line removal draws some visible edges dashed."""
+    if {told, made} != {"solid", "dashed"}:
+        return False
+    is_visible = seen().is_visible(key, at)
+    return is_visible is not None and is_visible == (told == "solid")
 
 
 def smooth_rows(shape: "Part.Shape", view: str, least: Place) -> Rows:
