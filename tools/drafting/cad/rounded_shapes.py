@@ -60,7 +60,7 @@ def whole_of(one: Squared, layer: Layer, unit: int) -> Whole:
 def corner_of(view: str, quarter: Quarter | Slant, layer: Layer, unit: int) -> "Part.Shape":
     """What lies between a quarter round, or a chamfer, and its sharp corner in a layer, without where something goes on across the corner's
     sides."""
-    quarter = in_units(quarter, unit) if isinstance(quarter, Slant) else quarter
+    quarter = in_units(quarter, unit)
     first, corner, last, middle = (vector(view, place, layer.low / unit) for place in (quarter.ends[0], quarter.corner, quarter.ends[1], quarter.along(0.5)))
     across = Part.makeLine(last, first) if isinstance(quarter, Slant) else Part.Arc(last, middle, first).toShape()
     sides = [Part.makeLine(first, corner), Part.makeLine(corner, last), across]
@@ -70,10 +70,14 @@ def corner_of(view: str, quarter: Quarter | Slant, layer: Layer, unit: int) -> "
     return tool
 
 
-def in_units(slant: Slant, unit: int) -> Slant:
-    """A chamfer whose ends are where the solid's corners are."""
-    (a, b), (c, d) = ((round(x * unit) / unit, round(y * unit) / unit) for x, y in (slant.centre, slant.corner))
-    return Slant((a, b), (c, d))
+def in_units(one: Quarter | Slant, unit: int) -> Quarter | Slant:
+    """A chamfer whose ends, or a quarter round whose sharp corner, are where the solid has them. A round that is d beside a plane that it touches is
+    tangent to it no more: it ends the root of 2 r d before that, and leaves a sliver that no tolerance mends."""
+    centre, corner = (tuple(round(at * unit) / unit for at in place) for place in (one.centre, one.corner))
+    if isinstance(one, Slant):
+        return Slant((centre[0], centre[1]), (corner[0], corner[1]))
+    x, y = (at + end - own for at, end, own in zip(one.centre, corner, one.corner))
+    return one._replace(centre=(x, y))
 
 
 def box_of(view: str, quarter: Quarter | Slant, layer: Layer, strip: Strip, unit: int) -> "Part.Shape":
