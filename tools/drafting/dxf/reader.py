@@ -10,7 +10,7 @@ from typing import TYPE_CHECKING, Any, NamedTuple
 
 from ..core.messages import Refused, many
 from ..core.notes import Thing, Things
-from . import curves, encoding, file_types, tags
+from . import curves, encoding, file_types, missing, places, tags
 from .crosscheck import BINARY, Unreadable, check_lines, line_of_file, version_needed
 from .drawing import UNITS, Place
 from .layer_words import Role, role_of
@@ -129,6 +129,9 @@ class Sheet:
         self.edges: list[Edge] = []
         self.arcs: list[Arc] = []
         self.unread: list[Unread] = []
+        # Blocks that aren't in the file; and what covers a part of the sheet, of which no line can be read.
+        self.missing: list[Unread] = []
+        self.covers: list[Unread] = []
         self.texts: list[Place] = []
         self.scales: set[str] = set()
         self.arrows: list[Arrow] = []
@@ -230,9 +233,9 @@ def where(source: Source, path: str | None) -> str:
 class Reader:
     """Walks over a document's entities, with its blocks taken apart."""
 
-    def __init__(self, document: Any, choices: Sequence[Choice], unit: str) -> None:
+    def __init__(self, document: Any, choices: Sequence[Choice], unit: str, path: str = "") -> None:
         from ezdxf.render.arrows import ARROWS
-        self.document, self.choices, self.arrows = document, choices, ARROWS
+        self.document, self.choices, self.arrows, self.path = document, choices, ARROWS, path
         self.sheet = Sheet(unit)
         self.patterns: dict[str, list[float] | None] = {}
         self.count = 0
@@ -313,12 +316,11 @@ class Reader:
             self.sheet.arrows.append(Arrow([tip], abs(size), source, (tail, tip)))
             self.sheet.left[inserted(f"an arrow head {name}")] += 1
             return
-        if name not in self.document.blocks:
-            self.sheet.left[inserted(f"{name}, which no block is named")] += 1
-            return
         style, why = style_of(Look(name, "CONTINUOUS", 0), (), None)
         if style is Style.APART:
             self.sheet.left[inserted(f"block {name}, which is named for frames, texts or dimensions")] += 1
+            return
+        if self.is_missing(insert, look, around):
             return
         if around.depth >= DEEPEST:
             raise Refused(f"blocks stand in blocks more than {DEEPEST} deep, at {name}")
@@ -333,6 +335,20 @@ class Reader:
             self.entity(attribute, attribute.dxftype(), look, around)
         for copy in copies:
             self.walk(copy.virtual_entities(skipped_entity_callback=self.skipped), within)
+
+    def is_missing(self, insert: Any, look: Look, around: Around) -> bool:
+        """Whether the block of an insert isn't in the file, which is kept as what can't be read, unless it is left out as asked."""
+        name, place = insert.dxf.name, places.of(insert, insert.dxf.insert)
+        block = self.document.blocks.get(name) if name in self.document.blocks else None
+        path = missing.reference_of(block) if block is not None else None
+        if block is not None and path is None:
+            return False
+        if any(choice.style is Style.APART and choice.meets(look) for choice in self.choices):
+            self.sheet.left[inserted(f"block {name}, which isn't in this file, as asked")] += 1
+            return True
+        why = missing.why_undefined(name, place) if path is None else missing.why_external(name, path, place, self.path)
+        self.sheet.missing.append(Unread(why, None, self.source(insert, "INSERT", look, around)))
+        return True
 
     def skipped(self, entity: Any, why: str) -> None:
         self.sheet.left[Thing(f"{entity.dxftype()} of a block that ezdxf can't place", entity=entity.dxftype())] += 1
@@ -349,6 +365,8 @@ class Reader:
         if kind in TEXTS:
             self.text(entity)
             sheet.left[on_layer(kind, look.layer)] += 1
+        elif kind in missing.COVERS and not any(choice.style is Style.APART and choice.meets(look) for choice in self.choices):
+            sheet.covers.append(Unread(missing.COVERS[kind], box_of(entity) or missing.box_at(entity), source))
         elif kind not in ("LINE", *POLYLINES, *CURVES):
             sheet.left[on_layer(kind, look.layer)] += 1
         elif style in (Style.CENTRE, Style.APART):
@@ -458,7 +476,7 @@ def read_sheet(path: str, choices: Sequence[Choice]) -> Sheet:
     told = b"$INSUNITS" in data
     unit = UNITS.get(document.header.get("$INSUNITS", 0), "") if told else ""
     try:
-        sheet = Reader(document, choices, unit).read()
+        sheet = Reader(document, choices, unit, path).read()
     except RecursionError:
         raise Refused(f"{pathlib.Path(path).name}: blocks stand in one another without an end") from None
     if mended:

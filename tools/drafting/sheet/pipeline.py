@@ -34,7 +34,7 @@ from .back_to_sheet import Paper
 from .exploded_dimensions import without_dimensions
 from .groups import Group
 from .placement import Hints, Placed, by_names, extents_of, main_named, named_views, numbers_of, view_named
-from .unreadable import refuse_hidden_outline, refuse_oblique, refuse_unread, way_of_style, with_layers
+from .unreadable import refuse_covered, refuse_hidden_outline, refuse_missing, refuse_oblique, refuse_unread, way_of_style, with_layers
 
 NAME = "sheet"
 HELP = "write a sheet as people draw it as the drawing that recon reads"
@@ -405,6 +405,7 @@ def draw_readings(path: str | None, arguments: argparse.Namespace, tell: Tell) -
         raise Refused(f"no tolerance: {arguments.tolerance}")
     sheet, marks = edges_of(path, arguments, tell)
     try:
+        refuse_missing(path, sheet.missing)
         if not sheet.arcs and not has_oblique(path, sheet, marks, arguments):
             return draw_straight(path, sheet, marks, arguments, tell)
         from ..rounds import pipeline  # which draws by what stands here
@@ -477,7 +478,9 @@ def draw_straight(path: str | None, sheet: Sheet, marks: Sequence[Mark], argumen
 def checked_views(path: str | None, sheet: Sheet, edges: Sequence[Edge], marks: Sequence[Mark], arguments: argparse.Namespace, tell: Tell) -> Placed:
     """The views of a sheet; refused where something in them can't be read."""
     placed = found_views(path, sheet, edges, marks, arguments, tell)
-    for note in noted.counted("left out", refuse_unread(path, placed, sheet.unread, arguments.tolerance)):
+    left = refuse_unread(path, placed, sheet.unread, arguments.tolerance)
+    left.update(refuse_covered(path, placed, sheet.covers, arguments.tolerance))
+    for note in noted.counted("left out", left):
         tell(note)
     refuse_oblique(path, placed)
     refuse_hidden_outline(placed, choices_of(arguments), arguments.tolerance)

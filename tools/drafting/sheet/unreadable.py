@@ -16,6 +16,8 @@ from .placement import Placed, main_named
 
 # How far off a line may be noise, as a part of its view.
 NOISE = 0.01
+# What comes before the option by which something is left out that the file doesn't hold.
+OR_LEAVE_OUT = "; where it is no part of the drawing, leave it out by"
 
 
 def way_of_style(it: Unread) -> str:
@@ -39,6 +41,27 @@ def refuse_unread(path: str | None, placed: Placed, unread: Sequence[Unread], to
             raise refused(f"a {where(it.source, path)} {it.why}, and stands in line with {near}, where the view that lacks may be", it,
                           placed.views[near], placed, tolerance)
         left[thing_of(it.source, f"outside the views, which {it.why}")] += 1
+    return left
+
+
+def refuse_missing(path: str | None, missing: Sequence[Unread]) -> None:
+    """Refuses a sheet with blocks that aren't in its file: where their lines would lie isn't known, and a view may be of them alone."""
+    if missing:
+        first, more = missing[0], len(missing) - 1
+        also = f"; {many(more, 'more INSERT is', 'more INSERTs are')} of such a block" if more else ""
+        raise InTheWay(f"a {where(first.source, path)} {first.why}{also}", [it.source for it in missing], OR_LEAVE_OUT)
+
+
+def refuse_covered(path: str | None, placed: Placed, covers: Sequence[Unread], tolerance: float) -> Things:
+    """Refuses what covers a part of a view, or may, and touches its box; what lies beside the views."""
+    left: Things = Counter()
+    for it in covers:
+        views = [view for view, group in placed.views.items() if it.source.view in ("", view) and (not it.box or meet(group.box, it.box, tolerance))]
+        if views:
+            place = f"in {views[0]} a" if it.box else "a"
+            unknown = "" if it.box else "; where it lies can't be told, and it may be in a view"
+            raise InTheWay(f"{place} {where(it.source, path)} {it.why}{unknown}", [it.source], OR_LEAVE_OUT)
+        left[thing_of(it.source, "outside the views")] += 1
     return left
 
 
