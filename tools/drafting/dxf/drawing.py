@@ -314,6 +314,21 @@ def is_known(layer: str) -> bool:
     return layer.upper() in (*VIEWS, *FURTHER) or is_of_section(layer)
 
 
+# The comment with which FreeCAD begins the files that it exports.
+FREECAD = "FreeCAD"
+BY_FREECAD = re.compile(rb"\s*999[ \t\r]*\n\s*FreeCAD\b")
+
+
+def may_hide_otherwise(lines: list[str]) -> bool:
+    """Whether no line of the views is hidden, and something else may tell hidden lines: the colours of lines on one layer, or a second export
+    by FreeCAD, which writes all lines as visible ones."""
+    if any(line.dashed for its in views_of(lines).values() for line in its):
+        return False
+    colours = {(entry.values.get(8, "").upper(), entry.values.get(62, "256").strip()) for entry in entries_of(lines)
+               if entry.section == "ENTITIES" and entry.name in DRAWN and is_known(entry.values.get(8, ""))}
+    return len(colours) > len({layer for layer, _ in colours}) or any(text.strip().startswith(FREECAD) for _, text in content_of(lines).comments[:1])
+
+
 # What is passed over on other layers and could be meant as a part of a view.
 MEANT = (*DRAWN, "POLYLINE", "ARC", "CIRCLE", "ELLIPSE", "SPLINE", "INSERT", "SOLID", "3DFACE")
 

@@ -12,7 +12,7 @@ from ..core.messages import Refused, many
 from ..core.notes import Thing, Things
 from . import curves, encoding, file_types, missing, places, tags
 from .crosscheck import BINARY, Unreadable, check_lines, line_of_file, version_needed
-from .drawing import UNITS, Place
+from .drawing import BY_FREECAD, FREECAD, UNITS, Place
 from .layer_words import Role, role_of
 from .styles import Choice, Look, Style, style_of
 
@@ -134,6 +134,8 @@ class Sheet:
         self.covers: list[Unread] = []
         self.texts: list[Place] = []
         self.scales: set[str] = set()
+        # Programs that say in a comment that they wrote a file.
+        self.writers: set[str] = set()
         self.arrows: list[Arrow] = []
         # Centre lines, and lines on layers that are named for cutting-plane lines.
         self.chains: list[Edge] = []
@@ -479,6 +481,8 @@ def read_sheet(path: str, choices: Sequence[Choice]) -> Sheet:
         sheet = Reader(document, choices, unit, path).read()
     except RecursionError:
         raise Refused(f"{pathlib.Path(path).name}: blocks stand in one another without an end") from None
+    if BY_FREECAD.match(data):
+        sheet.writers.add(FREECAD)
     if mended:
         sheet.changed[Thing(mended)] += 1
     if not data.startswith(BINARY) and (letters := encoding.decoded(data)).lost:

@@ -12,7 +12,7 @@ Each thing that is changed or left out is one line on standard error, and what c
 """
 import argparse
 import itertools
-from collections.abc import Iterable, Iterator, Mapping, Sequence
+from collections.abc import Container, Iterable, Iterator, Mapping, Sequence
 from fractions import Fraction
 from typing import Any, NamedTuple
 
@@ -21,7 +21,7 @@ from ..core.advice import Advisable
 from ..core.messages import Refused, many, say, write_result
 from ..core.notes import Note, Tell
 from ..core.verdict import Reason
-from ..dxf.drawing import MILLIMETRES, VIEWS, Origin, Stroke, places_of, written
+from ..dxf.drawing import FREECAD, MILLIMETRES, VIEWS, Origin, Stroke, places_of, written
 from ..dxf.reader import Edge, Sheet, Unread, read_sheet, where
 from ..dxf.styles import Choice, Style, choice_of
 from ..geometry.segments import MOST_DECIMALS, At, Measure, Run, apart, fits, hidden_by, measure_of, runs_of
@@ -250,7 +250,7 @@ def found_views(path: str | None, sheet: Sheet, edges: Sequence[Edge], marks: Se
         raise
 
 
-def check_styles(placed: Placed, arguments: argparse.Namespace, tell: Tell) -> None:
+def check_styles(placed: Placed, writers: Container[str], arguments: argparse.Namespace, tell: Tell) -> None:
     """Where no line is hidden, refuses what may tell hidden lines otherwise, by colours or by a second export."""
     runs = [run for group in placed.views.values() for run in group.runs]
     alone = getattr(arguments, "visible_edges_alone", False)
@@ -261,9 +261,9 @@ def check_styles(placed: Placed, arguments: argparse.Namespace, tell: Tell) -> N
     if len(colours) > 1:
         raise Refused(f"no line is hidden by its linetype or layer, and the views have lines of colours {', '.join(map(str, colours))}: say "
                       f"which are hidden by {option('hidden', 'color=NUMBER')}, or {option('all-visible')}")
-    if any(layer.startswith("ProjItem") for layer in layers):
-        raise Refused("a page of FreeCAD's TechDraw, which tells no linetypes: export it a second time with hidden lines off and name that "
-                      f"by {option('visible-only')}, or say {option('all-visible')}")
+    if FREECAD in writers or any(layer.startswith("ProjItem") for layer in layers):
+        raise Refused("a page that FreeCAD exported, which tells no linetypes: export it a second time with hidden lines off and name that "
+                      f"by {option('visible-only')}, or say {option('all-visible')} where no line is hidden")
     tell(noted.warning(f"no line is hidden, on the layers {', '.join(layers)}; where some are, say which by {option('hidden')}; where they "
                        f"aren't drawn, {command('solve', 'visible-edges-alone')} lists some solids that have the visible ones"))
 
@@ -485,7 +485,7 @@ def checked_views(path: str | None, sheet: Sheet, edges: Sequence[Edge], marks: 
     refuse_oblique(path, placed)
     refuse_hidden_outline(placed, choices_of(arguments), arguments.tolerance)
     if not sheet.page:
-        check_styles(placed, arguments, tell)
+        check_styles(placed, sheet.writers, arguments, tell)
     return placed
 
 

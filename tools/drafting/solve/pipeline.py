@@ -12,7 +12,7 @@ from ..core.notes import Note, Tell
 from ..core.verdict import Reason
 from ..dxf import missing
 from ..dxf.crosscheck import Unreadable
-from ..dxf.drawing import Origin, decimals_of, entries_of, lines_of, lines_within, missing_in, origin_of, passed_over, views_of
+from ..dxf.drawing import Origin, decimals_of, entries_of, lines_of, lines_within, may_hide_otherwise, missing_in, origin_of, passed_over, views_of
 from ..messages.controls import option
 from ..projection.draw import Sheet, sheet_of
 from ..projection.sections import layers_in, views_told
@@ -198,9 +198,10 @@ def is_said_of_sheet(arguments: argparse.Namespace) -> bool:
 
 
 def is_plain(lines: list[str]) -> bool:
-    """Whether a file is a drawing of three layers, of which nothing is passed over that lies within its views or tells of them."""
+    """Whether a file is a drawing of three layers, of which nothing is missing, or passed over that lies within its views or tells of them."""
     return (faults.is_of_the_main_layers(lines) and not passed_over(lines) and not faults.names_other_layers(lines)
-            and not missing.is_lacking(entries_of(lines)) and not any(entry.section == "ENTITIES" and entry.name in TELLING for entry in entries_of(lines)))
+            and not missing.is_lacking(entries_of(lines)) and not may_hide_otherwise(lines)
+            and not any(entry.section == "ENTITIES" and entry.name in TELLING for entry in entries_of(lines)))
 
 
 def ask_all(arguments: argparse.Namespace) -> readings.Asker:
