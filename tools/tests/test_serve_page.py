@@ -1,6 +1,7 @@
 """The page of `draft serve` in Chromium, used as a person does: drawings dropped in, looked at, stopped, compared and saved. With
 --pictures=FOLDER what is seen is saved there. Long ones run with --long."""
 import os
+import pathlib
 import re
 import time
 
@@ -13,6 +14,7 @@ from .serving import Served, slowed
 from .support import EXAMPLES, draft, needs_command, needs_long, needs_module, needs_program
 from .test_serve import answer_of_example, needs_packages
 
+DATA = pathlib.Path(__file__).parent / "data"
 ROWS = "[...document.querySelectorAll('#settle li')].map(({dataset}) => [dataset.name, [Number(dataset.groups), Number(dataset.largest)]])"
 
 
@@ -101,16 +103,16 @@ class Table(Opened):
         self.assertEqual(self.value("[viewer.model.count, document.querySelectorAll('#why li').length]"), [0, 2])
 
     def test_volumes_are_in_the_unit_of_the_drawing(self) -> None:
-        """Of a drawing in tenths of a millimetre, in the captions and where two solids are compared."""
+        """Of a drawing in tenths of a centimetre, in the captions and where two solids are compared."""
         grid = voids(1)
         file = self.folder / "tenths.dxf"
-        file.write_text(written(lines_of_runs(grid, runs(grid)), 1, Origin("mm")))
+        file.write_text(written(lines_of_runs(grid, runs(grid)), 1, Origin("cm")))
         self.drop(file)
         self.browser.until(IS_OVER, PATIENCE)
-        self.assertIn("volume 0.121 mm³", self.text(".solids figcaption"))
+        self.assertIn("volume 0.121 cm³", self.text(".solids figcaption"))
         self.assertIn("0.5 mm × 0.5 mm × 0.5 mm", self.text(".solids .size"))
         self.value("[0, 1].forEach(viewer.pick)")
-        self.assertEqual(self.text(".pair figcaption"), "Solid 1 has, and solid 2 lacks: volume 0.001 mm³")
+        self.assertEqual(self.text(".pair figcaption"), "Solid 1 has, and solid 2 lacks: volume 0.001 cm³")
 
     @needs_module("FreeCAD", "freecad-python3", "/usr/lib/freecad-python3/lib")
     def test_step_is_saved(self) -> None:
@@ -211,3 +213,43 @@ class Table(Opened):
         self.assertRegex(self.text(".told"), "(no|one|\\d+) solids? match(es)? this drawing")
         self.assertTrue(re.search("mm", self.text(".drawing")) or self.text(".said"))
         self.picture("freecad")
+
+    def options(self) -> list[object]:
+        """What is said in the form of a drawing's options that isn't the default."""
+        return list(self.value("[...document.querySelector('.options form').elements].filter((it) => it.type === 'checkbox' ? it.checked "
+                               ": it.name && it.value).map((it) => it.name)"))
+
+    def test_options_of_one_drawing_are_none_of_the_next(self) -> None:
+        self.drop_example("unit_cube")
+        self.value("document.querySelector('.options').open = true")
+        for name, text in (("scale", "1:2"), ("leave-out", "layer=X")):
+            self.type_into(f"[name={name}]", text)
+        self.value("document.querySelector('[name=all-visible]').checked = true")
+        self.press(button("Read it so"))
+        self.browser.until(f"({IS_OVER}) && document.querySelector('.solids figcaption').innerText.includes('volume 8')", PATIENCE)
+        self.assertEqual(self.options(), ["scale", "leave-out", "all-visible"])
+        self.drop_text("next.dxf", (EXAMPLES / "unit_cube.dxf").read_bytes())
+        self.assertIn("volume 1", self.text(".solids figcaption"))
+        self.assertEqual(self.options(), [])
+
+    def test_what_is_said_before_the_first_drawing_is_of_it(self) -> None:
+        self.value("document.querySelector('.options').open = true")
+        self.type_into("[name=scale]", "1:2")
+        self.drop_example("unit_cube")
+        self.assertIn("volume 8", self.text(".solids figcaption"))
+
+    def test_a_sheet_and_its_visible_lines_are_taken_together(self) -> None:
+        whole = DATA / "techdraw_front_top_side.dxf"
+        for files in ((whole, whole.with_suffix(".visible.dxf")), (whole.with_suffix(".visible.dxf"), whole)):
+            self.browser.drop(*files)
+            self.browser.until(f"({IS_OVER}) && viewer.model.count === 1", PATIENCE)
+            self.assertEqual((self.text("h1"), self.options()), (whole.name, ["second"]))
+            self.assertIn("volume 11000 mm³", self.text(".solids figcaption"))
+            self.drop_example("quartered_cube")
+
+    def test_other_drawings_together_are_refused(self) -> None:
+        self.drop_example("unit_cube")
+        self.browser.drop(EXAMPLES / "clevis.dxf", EXAMPLES / "bracket.dxf")
+        self.browser.until("!document.querySelector('.failed').hidden", PATIENCE)
+        self.assertIn("Not taken: one drawing at a time is read, and these are 2: clevis.dxf, bracket.dxf.", self.text(".failed"))
+        self.assertEqual((self.text("h1"), self.value("viewer.model.count")), ("unit_cube.dxf", 1))

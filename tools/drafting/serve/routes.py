@@ -10,7 +10,7 @@ import flask
 from werkzeug.exceptions import HTTPException
 
 from ..core.messages import Refused
-from ..dxf.drawing import VIEWS, is_known
+from ..dxf.drawing import MILLIMETRES, VIEWS, is_known
 from ..recon import process
 from ..render import page
 from .jobs import Desk, Job, Unfit, told_of_failure
@@ -25,7 +25,7 @@ NAME = r"[^\x00-\x1f]{1,1000}"
 OPTIONS = {
     "solids": r"[1-9]\d{0,4}", "nodes": r"[1-9]\d{0,6}", "decimals": "[0-6]", "sheet-decimals": "[0-6]", "angle": "third|first",
     "scale": f"{NUMBER}:{NUMBER}", "tolerance": r"\d{0,3}\.?\d{1,9}", "hidden": WHICH, "visible": WHICH, "leave-out": WHICH,
-    "sheet-page": NAME, "part": NAME,
+    "sheet-page": NAME, "part": NAME, "unit": "|".join(MILLIMETRES),
 }
 SWITCHES = ("as-is", "all-visible", "as-drawn", "sections")
 MOST_OPTIONS = 40

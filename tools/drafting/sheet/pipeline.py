@@ -338,6 +338,7 @@ def scale_in_use(path: str | None, sheet: Sheet, placed: Placed, arguments: argp
     """The scale that is said, or that the sheet's dimensions and a text of it say."""
     said = scale.Scale(scale_of(arguments.scale or "1:1"), arguments.scale is not None)
     times = scale.checked(sheet, list(placed.views.values()), said, arguments, lambda source: where(source, path), tell)
+    scale.check_size(sheet, list(placed.views.values()), times, arguments, lambda source: where(source, path), tell)
     for text in sorted(sheet.scales - {"1:1", scale.scale_told(times)}):
         tell(noted.found(f"a text says {text}; lengths are taken {'as drawn' if times == 1 else 'by ' + scale.scale_told(times)}"))
     if times != 1:

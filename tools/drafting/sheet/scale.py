@@ -46,6 +46,17 @@ NUMBER = re.compile(
     r"\s*(?P<unit>''|[\"″]|(?:mm|cm|inch|in|m|ft)(?![a-z]))?", re.I,
 )
 
+# Of a part larger or smaller than this, in millimetres, the unit is asked about; and texts that are higher or lower speak against it.
+LARGEST, SMALLEST = 20_000, 1
+HIGHEST_TEXT, LOWEST_TEXT = 1_000, Fraction("0.2")
+# How a title block or a note says the unit of a sheet's lengths, in the languages of title blocks.
+NAMES = {"mm": "mm|millim[eèé]tres?|millimeters?|millimetern?|mil[ií]metros?|millimetri", "cm": "cm|centim[eè]tres?|centimeters?",
+         "m": "met(?:re|er)s?|metern|metros|metri", "in": "inch(?:es)?|zoll|pouces?|pulgadas?|pollici"}
+SAYS_UNIT = re.compile(
+    r"\b(?:dim(?:ension)?s?|units?|ma(?:ß|ss)e|einheit(?:en)?|cotes?|unit[ée]s?|cotas?|unidad(?:es)?|quote|unità)\b\.?"
+    r"(?:\s+(?:are|is|alle|sont|est|son|sono))?\s*(?:[:=]|in|en|em|dans)?\s*"
+    r"(?:" + "|".join(f"(?P<{unit}_>{words})" for unit, words in NAMES.items()) + r")\b", re.I)
+
 Where = Callable[[Source], str]
 
 
@@ -351,3 +362,55 @@ def refusal(dimensions: Sequence[Dimension], used: Agreed, best: Agreed, scale: 
         return (f"{text}, and {neither}: {way}, with {option('as-drawn')} where {'it was' if len(best.off) == 1 else 'these were'} written over:"
                 f"{named(best.off, where)}\n  beside {told(agree[0], where)}")
     return f"{text}: {way}, or say {option('as-drawn')} where the dimensions are wrong:{named(agree[:2], where)}"
+
+
+# ---- whether the unit can be meant
+
+def is_likely(size: Fraction | float, unit: str) -> bool:
+    """Whether a part may be so large, in a unit that is known."""
+    return unit not in MILLIMETRES or SMALLEST - 1e-9 <= float(MILLIMETRES[unit]) * float(size) <= LARGEST
+
+
+def units_said(sheet: Sheet, times: Fraction, tolerance: float) -> dict[str, Source]:
+    """The units that dimensions with a unit and texts of the sheet say its lengths are in, each with the first entity that does."""
+    found: dict[str, Source] = {}
+    for it in dimensions_of(sheet):
+        number = NUMBER.match(it.words)
+        mark = MARKS.get((number["unit"] or "").lower(), "") if number else ""
+        lengths = it._replace(said=it.said[:1])
+        if mark and lengths.off(float(times), tolerance) == (False, False):
+            found.setdefault(mark, it.source)
+        elif mark and sheet.unit and not it.off(float(times), tolerance)[0]:
+            found.setdefault(sheet.unit, it.source)
+    for word in words_of(sheet):
+        if said := SAYS_UNIT.search(word.text):
+            found.setdefault(next(unit for unit in NAMES if said[f"{unit}_"]), word.source)
+    return found
+
+
+def check_size(sheet: Sheet, views: Sequence[Group], times: Fraction, arguments: argparse.Namespace, where: Where, tell: Tell) -> None:
+    """Asks about the unit of a part that can hardly be so large or so small, unless it is said, or dimensions or texts of the sheet say it, in which
+    case the sheet's lengths are in that."""
+    size = float(times) * max(max(view.width, view.height) for view in views)
+    if arguments.unit or is_likely(size, sheet.unit):
+        return
+    said = units_said(sheet, times, arguments.tolerance)
+    if len(said) == 1:
+        unit, source = next(iter(said.items()))
+        if unit != sheet.unit:
+            tell(notes.changed(f"lengths are in {unit}, as {where(source)} says, and not in {sheet.unit}, in which the part would be {size:.6g} "
+                               f"{sheet.unit} long"))
+            sheet.unit = unit
+        return
+    ways = [unit for unit in dict.fromkeys(("mm", "in", sheet.unit)) if unit == sheet.unit or is_likely(size, unit)]
+    other = f", or {option('unit', sheet.unit)} where it is right"
+    say = " or ".join(option("unit", unit) for unit in ways if unit != sheet.unit) + other if len(ways) > 1 else option("unit", sheet.unit)
+    raise Refused(f"the file says that lengths are in {sheet.unit}, so that the part is {size:.6g} {sheet.unit} long, which can hardly be meant"
+                  f"{texts_against(sheet)}: say {say}", "unit", ways)
+
+
+def texts_against(sheet: Sheet) -> str:
+    """What the heights of texts say against the unit of a sheet."""
+    high = [word.high for word in words_of(sheet) if word.high > 0]
+    odd = next((it for it in high if not LOWEST_TEXT <= Fraction(it) * MILLIMETRES[sheet.unit] <= HIGHEST_TEXT), None)
+    return f"; a text would be {odd:.6g} {sheet.unit} high" if odd else ""

@@ -12,7 +12,9 @@ from ..core.notes import Note, Tell
 from ..core.verdict import Reason
 from ..dxf import missing
 from ..dxf.crosscheck import Unreadable
-from ..dxf.drawing import Origin, decimals_of, entries_of, lines_of, lines_within, may_hide_otherwise, missing_in, origin_of, passed_over, views_of
+from ..dxf.drawing import (
+    Origin, content_of, decimals_of, entries_of, lines_of, lines_within, may_hide_otherwise, missing_in, origin_of, passed_over, views_of,
+)
 from ..messages.controls import option
 from ..projection.draw import Sheet, sheet_of
 from ..projection.sections import layers_in, views_told
@@ -22,6 +24,7 @@ from ..rounds.features import given_in
 from ..rounds.verify import Kept
 from ..sheet import view_files, pipeline as sheet
 from ..sheet.back_to_sheet import Paper
+from ..sheet.scale import is_likely as likely_size
 from ..sheet.two_views import TwoReadings
 from . import readings
 from .readings import Readings
@@ -201,7 +204,17 @@ def is_plain(lines: list[str]) -> bool:
     """Whether a file is a drawing of three layers, of which nothing is missing, or passed over that lies within its views or tells of them."""
     return (faults.is_of_the_main_layers(lines) and not passed_over(lines) and not faults.names_other_layers(lines)
             and not missing.is_lacking(entries_of(lines)) and not may_hide_otherwise(lines)
-            and not any(entry.section == "ENTITIES" and entry.name in TELLING for entry in entries_of(lines)))
+            and is_likely_size(lines) and not any(entry.section == "ENTITIES" and entry.name in TELLING for entry in entries_of(lines)))
+
+
+def is_likely_size(lines: list[str]) -> bool:
+    """Whether a drawing's unit may be meant; of one that `draft sheet` wrote it was asked about then."""
+    origin = origin_of(lines)
+    if not origin.unit or any(text.startswith("draft ") for _, text in content_of(lines).comments):
+        return True
+    views = [[end for line in its for end in (line.start, line.end)] for its in views_of(lines).values() if its]
+    extents = [max(along) - min(along) for its in views for along in zip(*its)]
+    return not extents or likely_size(max(extents), origin.unit)
 
 
 def ask_all(arguments: argparse.Namespace) -> readings.Asker:

@@ -15,9 +15,10 @@ const MOST_FILE = 16 * 1024 * 1024;
 const ALIVE = 3000;
 const PATIENT = 5000;
 const SAVED_AS = { dxf: "its drawing, one line for each edge", stl: "its boundary as triangles", step: "its faces, by FreeCAD" };
-// What may be said several times, with semicolons between; and what is said of one file alone.
+// What may be said several times, with semicolons between.
 const REPEATED = ["hidden", "visible", "leave-out"];
-const OF_A_FILE = ["second", "sheet-page", "part"];
+// The same sheet without hidden lines, by its name beside that of the whole one.
+const VISIBLE = /\.visible\.dxf$/i;
 const SECTIONS = "sections";
 const SAVED_HERE = "made from its blocks, since its search isn't whole";
 
@@ -88,10 +89,31 @@ function optionsNow() {
   return options;
 }
 
-/** Takes a drawing that is new here: what was said of the file of the one before alone is none of this one. */
-function showNew(file) {
-  for (const name of OF_A_FILE) fieldOf(name).value = "";
+/** Takes a drawing that is new here, and where it is there the same sheet without hidden lines. What was said of the drawing before it is none
+ *  of this one, which is read by the defaults; what was said before there was a drawing is. */
+function showNew(file, second) {
+  if (table.name) find(".options form").reset();
+  if (second) fieldOf("second").files = filesOf(second);
   showFile(file);
+}
+
+/** A list of files as an input has it. */
+function filesOf(file) {
+  const list = new DataTransfer();
+  list.items.add(file);
+  return list.files;
+}
+
+/** Takes what was dropped or chosen together: one drawing, or a sheet with its export without hidden lines. */
+function showAny(files) {
+  const [whole, second] = [...files].sort((a, b) => VISIBLE.test(a.name) - VISIBLE.test(b.name));
+  if (files.length === 1) return showNew(files[0]);
+  if (files.length === 2 && VISIBLE.test(second.name) && whole.name.toLowerCase() === second.name.replace(VISIBLE, ".dxf").toLowerCase()) {
+    return showNew(whole, second);
+  }
+  const names = Array.from(files, ({ name }) => name).join(", ");
+  if (files.length) showFailure(`Not taken: one drawing at a time is read, and these are ${files.length}: ${names}. A sheet NAME.dxf and the same sheet
+    without hidden lines, NAME.visible.dxf, are taken together.`);
 }
 
 /** Sends a drawing, and shows what is told of it. */
@@ -341,7 +363,7 @@ function listenForFiles() {
   const input = document.getElementById("file");
   find(".choose").addEventListener("click", () => input.click());
   input.addEventListener("change", () => {
-    if (input.files[0]) showNew(input.files[0]);
+    showAny([...input.files]);
     input.value = "";
   });
   for (const button of document.querySelectorAll("[data-example]")) {
@@ -360,7 +382,7 @@ function listenForFiles() {
   document.addEventListener("drop", (event) => {
     event.preventDefault();
     document.body.classList.remove("dragged");
-    if (event.dataTransfer.files[0]) showNew(event.dataTransfer.files[0]);
+    showAny(event.dataTransfer.files);
   });
 }
 
