@@ -110,7 +110,7 @@ class Table(Opened):
         self.drop(file)
         self.browser.until(IS_OVER, PATIENCE)
         self.assertIn("volume 0.121 cm³", self.text(".solids figcaption"))
-        self.assertIn("0.5 mm × 0.5 mm × 0.5 mm", self.text(".solids .size"))
+        self.assertIn("0.5 cm × 0.5 cm × 0.5 cm", self.text(".solids .size"))
         self.value("[0, 1].forEach(viewer.pick)")
         self.assertEqual(self.text(".pair figcaption"), "Solid 1 has, and solid 2 lacks: volume 0.001 cm³")
 

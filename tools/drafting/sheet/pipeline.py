@@ -33,6 +33,7 @@ from . import outlines, view_files, two_views, scale
 from .back_to_sheet import Paper
 from .exploded_dimensions import without_dimensions
 from .groups import Group
+from .overlapping import moved_apart
 from .placement import Hints, Placed, by_names, extents_of, main_named, named_views, numbers_of, view_named
 from .unreadable import refuse_covered, refuse_hidden_outline, refuse_missing, refuse_oblique, refuse_unread, way_of_style, with_layers
 
@@ -407,6 +408,7 @@ def draw_readings(path: str | None, arguments: argparse.Namespace, tell: Tell) -
     sheet, marks = edges_of(path, arguments, tell)
     try:
         refuse_missing(path, sheet.missing)
+        moved_apart(sheet, arguments.tolerance, tell)
         if not sheet.arcs and not has_oblique(path, sheet, marks, arguments):
             return draw_straight(path, sheet, marks, arguments, tell)
         from ..rounds import pipeline  # which draws by what stands here
