@@ -44,6 +44,7 @@ class Doubt(enum.Enum):
     CONTENT_NOT_READ = "content_not_read"
     SECTIONS_NOT_READ = "sections_not_read"
     HIDDEN_NOT_DRAWN = "hidden_not_drawn"
+    ANGLE_NOT_CHECKED = "angle_not_checked"
 
 
 # Doubts that can only take solids away: without a solid there is none with them either.

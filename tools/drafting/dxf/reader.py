@@ -133,6 +133,8 @@ class Sheet:
         self.missing: list[Unread] = []
         self.covers: list[Unread] = []
         self.texts: list[Place] = []
+        # The texts of blocks that are left out, as a title block is.
+        self.stamps: list[str] = []
         self.scales: set[str] = set()
         # Programs that say in a comment that they wrote a file.
         self.writers: set[str] = set()
@@ -152,6 +154,12 @@ class Sheet:
 def on_layer(kind: str, layer: str, rest: str = "") -> Thing:
     """An entity of a layer, of which the rest is told."""
     return Thing(f"{kind} on layer {layer}{rest}", layer, kind)
+
+
+def plain_text(entity: Any) -> str:
+    """What a text says, without codes of its form."""
+    words = entity.plain_text() if hasattr(entity, "plain_text") else entity.dxf.get("text", "")
+    return words if isinstance(words, str) else ""
 
 
 def thing_of(source: Source, rest: str) -> Thing:
@@ -321,6 +329,8 @@ class Reader:
         style, why = style_of(Look(name, "CONTINUOUS", 0), (), None)
         if style is Style.APART:
             self.sheet.left[inserted(f"block {name}, which is named for frames, texts or dimensions")] += 1
+            its = (*insert.attribs, *(it for it in self.document.blocks[name] if it.dxftype() in ("TEXT", "MTEXT")))
+            self.sheet.stamps += [words for it in its if (words := plain_text(it))]
             return
         if self.is_missing(insert, look, around):
             return
@@ -404,8 +414,7 @@ class Reader:
         place = entity.dxf.get("insert")
         if place is not None:
             self.sheet.texts.append((place.x, place.y))
-        words = entity.plain_text() if hasattr(entity, "plain_text") else str(entity.dxf.get("text", ""))
-        self.sheet.scales |= {f"{told[1]}:{told[2]}" for told in SCALE.finditer(words if isinstance(words, str) else "")}
+        self.sheet.scales |= {f"{told[1]}:{told[2]}" for told in SCALE.finditer(plain_text(entity))}
 
     def arrow(self, entity: Any, source: Source) -> None:
         box = box_of(entity)

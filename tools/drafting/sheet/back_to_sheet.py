@@ -15,7 +15,8 @@ GAP = 0.1
 
 class Paper(NamedTuple):
     """How a drawing stands for a sheet: the groups of lines that are its views, where these begin in the drawing, how many units of the
-    drawing one of the sheet has as drawn and at full size, whether it is a mirror image, what noise is, and how entities are told."""
+    drawing one of the sheet has as drawn and at full size, whether it is a mirror image, what noise is, how entities are told, and whether the
+    groups are those of the sheet turned by 180 degrees."""
 
     views: Mapping[str, Group]
     begins: Mapping[str, tuple[int, int]]
@@ -24,9 +25,18 @@ class Paper(NamedTuple):
     mirrored: bool
     tolerance: float
     where: Callable[[Source], str]
+    is_turned: bool = False
 
     def on_sheet(self, view: str, right: int, up: int) -> Place:
         """A place of a view in the sheet's own coordinates."""
+        return self.turned(self.as_read(view, right, up))
+
+    def turned(self, place: Place) -> Place:
+        """A place in the coordinates in which the sheet was read, in its own ones."""
+        return (-place[0], -place[1]) if self.is_turned else place
+
+    def as_read(self, view: str, right: int, up: int) -> Place:
+        """A place of a view in the coordinates in which the sheet was read."""
         x, y = self.begins[view]
         box = self.views[view].box
         across, along = float((right - x) / self.per_drawn), float((up - y) / self.per_drawn)
@@ -44,7 +54,8 @@ class Paper(NamedTuple):
         """A place of a view of this size that the sheet hasn't, from that view's least corner on in the drawing, where the view is to stand."""
         wide, high, across, along = (float(it / self.per_drawn) for it in (*size, right, up))
         x, y = self.beside(self.name(view), wide, high)
-        return f"{x + (wide - across if self.mirrored else across):.9g}", f"{y + along:.9g}"
+        x, y = self.turned((x + (wide - across if self.mirrored else across), y + along))
+        return f"{x:.9g}", f"{y:.9g}"
 
     def beside(self, view: str, wide: float, high: float) -> Place:
         """Where a view that the sheet hasn't begins on it: in line with those that it has, on the side that its angle says, beyond all."""
@@ -68,7 +79,7 @@ class Paper(NamedTuple):
 
     def entities(self, view: str, start: tuple[int, int], end: tuple[int, int]) -> str:
         """The entities that are drawn along a stretch of a view, in words; nothing where none is."""
-        (a, b), (c, d) = self.on_sheet(view, *start), self.on_sheet(view, *end)
+        (a, b), (c, d) = self.as_read(view, *start), self.as_read(view, *end)
         upright = start[0] == end[0]
         at, ends = (a, sorted((b, d))) if upright else (b, sorted((a, c)))
         reach = 3 * self.tolerance

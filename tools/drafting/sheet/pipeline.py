@@ -27,14 +27,15 @@ from ..dxf.styles import Choice, Style, choice_of
 from ..geometry.segments import MOST_DECIMALS, At, Measure, Run, apart, fits, hidden_by, measure_of, runs_of
 from ..messages.controls import command, option, without
 from ..sections import layers as section_views
-from ..sections.cutting_plane_marks import Mark, marks_of, without_marks
+from ..sections.cutting_plane_marks import Mark, marks_of, without_marks, words_of as words_of_sheet
 from ..sections.recognize import labels_of, sections_of
-from . import outlines, view_files, two_views, scale
+from . import outlines, view_files, two_views, scale, titles
 from .back_to_sheet import Paper
 from .exploded_dimensions import without_dimensions
 from .groups import Group
 from .overlapping import moved_apart
-from .placement import Hints, Placed, by_names, extents_of, main_named, named_views, numbers_of, view_named
+from .placement import Hints, OtherAngle, Placed, by_names, extents_of, main_named, named_views, numbers_of, view_named
+from .turned import turned
 from .unreadable import refuse_covered, refuse_hidden_outline, refuse_missing, refuse_oblique, refuse_unread, way_of_style, with_layers
 
 NAME = "sheet"
@@ -51,7 +52,8 @@ class Drawn(NamedTuple):
     """A drawing of three layers, made of a sheet: its text, how many decimals it has, how it stands for the sheet, and the way back. Of a
     sheet with rounds also what is told of this reading of it, the drawings of the further ones, or why one has none; and why it is refused
     unless some solid of a reading that changes more than to leave lines out, and isn't plain, is kept. Of a document of FreeCAD, its page;
-    whether it has layers of the sheet's sections; and what this reading of the sheet leaves open, so that the verdict isn't decided."""
+    whether it has layers of the sheet's sections; and what this reading of the sheet leaves open, so that the verdict isn't decided. Where the
+    places of three or more views told which they are, the angle in which these were read, and the texts of the sheet that say so."""
 
     text: str
     decimals: int
@@ -64,6 +66,8 @@ class Drawn(NamedTuple):
     page: documents.Page | None = None
     has_sections: bool = False
     reasons: tuple[Reason, ...] = ()
+    angle: str = ""
+    angle_by: str = ""
 
 
 class Alike(NamedTuple):
@@ -144,6 +148,7 @@ def edges_of(path: str | None, arguments: argparse.Namespace, tell: Tell) -> tup
     choices = choices_of(arguments)
     named = view_files.files_of(arguments, path)
     sheets = list(view_files.read_views(named, choices).values()) if named else [read_sheet(str(path), choices)]
+    sheets = [turned(sheet) for sheet in sheets] if is_turned(arguments) else sheets
     whole = view_files.together(sheets)
     for note in (*noted.counted("changed", whole.changed), *noted.counted("left out", whole.left)):
         tell(note)
@@ -153,7 +158,8 @@ def edges_of(path: str | None, arguments: argparse.Namespace, tell: Tell) -> tup
     if len(whole.edges) > MOST_EDGES:
         raise Refused(f"{len(whole.edges):,} lines, more than {MOST_EDGES:,}")
     if visible := view_files.visible_only(arguments, path):
-        sheets[0].whole, sheets[0].seen = sheets[0].edges, read_sheet(visible, choices)
+        seen = read_sheet(visible, choices)
+        sheets[0].whole, sheets[0].seen = sheets[0].edges, turned(seen) if is_turned(arguments) else seen
         sheets[0].edges = hidden_within(sheets[0].edges, sheets[0].seen.edges, arguments.tolerance)
         hidden = sum(edge.hidden for edge in sheets[0].edges)
         tell(noted.changed(f"{many(hidden, 'line')} taken as hidden, since {visible} lacks them", hidden))
@@ -165,6 +171,11 @@ def choices_of(arguments: argparse.Namespace) -> list[Choice]:
     """What the user says of lines by their colours, layers and linetypes."""
     styles = (("hidden", Style.HIDDEN), ("visible", Style.VISIBLE), ("leave_out", Style.APART))
     return [choice_of(text, style) for name, style in styles for text in getattr(arguments, name) if not text.startswith("group=")]
+
+
+def is_turned(arguments: argparse.Namespace) -> bool:
+    """Whether the sheet is read turned by 180 degrees."""
+    return bool(getattr(arguments, "is_turned", False))
 
 
 def hidden_within(whole: Sequence[Edge], visible: Sequence[Edge], tolerance: float) -> list[Edge]:
@@ -223,7 +234,8 @@ def placed_views(sheet: Sheet, edges: Sequence[Edge], marks: Sequence[Mark], arg
     if not others and not any(runs.values()):
         raise Refused("no straight line in the model space that could be an edge")
     told = sections_of(sheet, marks, arguments.tolerance)
-    hints = Hints(arguments.tolerance, arguments.angle, frozenset(itertools.chain(*numbers)), sheet.texts, told.among, curves_of(sheet))
+    hints = Hints(arguments.tolerance, arguments.angle, frozenset(itertools.chain(*numbers)), sheet.texts, told.among, curves_of(sheet),
+                  *texts_of(sheet))
     if named:
         if empty := [view for view, its in runs.items() if not its]:
             raise Refused(f"no straight line of {empty[0]} that could be an edge")
@@ -235,6 +247,12 @@ def placed_views(sheet: Sheet, edges: Sequence[Edge], marks: Sequence[Mark], arg
     return placed
 
 
+def texts_of(sheet: Sheet) -> tuple[list[titles.Title], titles.Said]:
+    """The texts of a sheet that name views, and the angle that its projection's name says; of a page of FreeCAD views have their directions."""
+    texts = [titles.Text(it.text, it.place) for it in words_of_sheet(sheet)] if not sheet.page else []
+    return titles.titles_in(texts), titles.projection_in([*(it.text for it in texts), *sheet.stamps])
+
+
 def curves_of(sheet: Sheet) -> list[Unread]:
     """What can't be read of a sheet and may be of a view."""
     return [it for it in sheet.unread if it.box and it.source.kind not in ("SOLID", "TRACE")]
@@ -244,6 +262,8 @@ def found_views(path: str | None, sheet: Sheet, edges: Sequence[Edge], marks: Se
     """The views; where there are none without lines of an unknown style, these are named."""
     try:
         return placed_views(sheet, edges, marks, arguments, tell)
+    except OtherAngle:
+        raise
     except Refused:
         if unstyled := next((it for it in sheet.unread if it.linetype), None):
             raise Refused(f"a {where(unstyled.source, path)} {unstyled.why}, and without such lines the views aren't there: "
@@ -402,7 +422,38 @@ def draw(path: str | None, arguments: argparse.Namespace, tell: Tell) -> Drawn:
 
 
 def draw_readings(path: str | None, arguments: argparse.Namespace, tell: Tell) -> Drawn:
-    """The drawing of a sheet, as `draw`, with its further readings where it has rounds."""
+    """The drawing of a sheet, as `draw`, with its further readings where it has rounds. Where the user or a text of the sheet says the angle in
+    which its views don't stand unless it is turned by 180 degrees, it is turned."""
+    try:
+        return draw_upright(path, arguments, tell)
+    except OtherAngle as cause:
+        other = argparse.Namespace(**{**vars(arguments), "angle": cause.said.angle, "is_turned": True})
+        tell(noted.found(f"{cause.said.angle} angle, as the text {cause.said.words} says"))
+        return draw_turned(path, other, tell)._replace(angle_by=cause.said.words)
+    except Refused:
+        if arguments.angle is None or is_turned(arguments):
+            raise
+        told: list[Note] = []
+        try:
+            drawn = draw_turned(path, argparse.Namespace(**{**vars(arguments), "is_turned": True}), told.append)
+        except Refused:
+            drawn = None
+        if drawn is None:
+            raise
+    for note in told:
+        tell(note)
+    return drawn
+
+
+def draw_turned(path: str | None, arguments: argparse.Namespace, tell: Tell) -> Drawn:
+    """The drawing of a sheet that is turned by 180 degrees to be read in its angle."""
+    drawn = draw_upright(path, arguments, tell)
+    tell(noted.changed(f"the sheet is turned by 180 degrees to be read in {arguments.angle} angle, and the part comes out upside down"))
+    return drawn
+
+
+def draw_upright(path: str | None, arguments: argparse.Namespace, tell: Tell) -> Drawn:
+    """The drawing of a sheet as it is read, with its further readings where it has rounds."""
     if not 0 < arguments.tolerance < 1e6:
         raise Refused(f"no tolerance: {arguments.tolerance}")
     sheet, marks = edges_of(path, arguments, tell)
@@ -510,9 +561,10 @@ def drawn_views(
     begins = {view: least_of(its) for view, its in views.items()}
     units = 10**measure.decimals
     paper = Paper(placed.views, begins, measure.times * units, origin.times * units, placed.mirrored, arguments.tolerance,
-                  lambda source: where(source, path))
+                  lambda source: where(source, path), is_turned(arguments))
     text = comments + written({**views, **layers}, measure.decimals, origin)
-    return Drawn(text, measure.decimals, origin, paper, page=sheet.page, has_sections=bool(layers))
+    return Drawn(text, measure.decimals, origin, paper, page=sheet.page, has_sections=bool(layers),
+                 angle=placed.angle, angle_by=placed.angle_by)
 
 
 def least_of(strokes: Sequence[Stroke]) -> tuple[int, int]:

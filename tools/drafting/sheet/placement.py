@@ -16,6 +16,7 @@ from ..geometry.segments import Run
 from ..messages.controls import option
 from ..projection.draw import FRAMES
 from ..sections.recognize import NO_SECTION, Cut, TellSections, Why, among_named, together
+from .titles import Contradicted, Said, Title, angle_said, check_names
 from .groups import MOST_GROUPS, Group, frames, group_of, has_extent, holds, merged, pieces_of, title_blocks, united
 
 # The words that name a view in the name of a layer or block.
@@ -37,13 +38,16 @@ MOST_CUTS = 20_000
 
 class Placed(NamedTuple):
     """The three views and those beside them, whether the part is seen in a mirror (the side view is the left one, and there is no right
-    one), what was found and left out, whether names told the views, and not their places, and the sections beside them."""
+    one), what was found and left out, whether names told the views, and not their places, and the sections beside them. Where places told the views
+    also in which angle they are read, and the texts of the sheet that say so."""
 
     views: dict[str, Group]
     mirrored: bool
     notes: list[Note]
     by_names: bool = False
     sections: Sequence[Cut] = ()
+    angle: str = ""
+    angle_by: str = ""
 
 
 class Hints(NamedTuple):
@@ -55,6 +59,16 @@ class Hints(NamedTuple):
     texts: Sequence[tuple[float, float]] = ()
     sections: TellSections = lambda groups, left_out: {}
     curves: Sequence[Unread] = ()
+    titles: Sequence[Title] = ()
+    projection: Said = Said("")
+
+
+class OtherAngle(Refused):
+    """Texts of the sheet say that its views are in this angle, for which the sheet has to be turned."""
+
+    def __init__(self, said: Said) -> None:
+        super().__init__(f"the views are in {said.angle} angle, as {said.words} says")
+        self.said = said
 
 
 # ---- what isn't a view
@@ -148,7 +162,9 @@ def by_names(views: dict[str, list[Run]], others: list[Run], hints: Hints) -> Pl
             taken[Thing(f"lines on layer {layer} taken to {holding[0]}, in whose box they lie", layer, view=holding[0])] += 1
         else:
             outside.append(run)
-    groups = with_a_side({view: group_of(its) for view, its in named.items()})
+    its_own = {view: group_of(its) for view, its in named.items()}
+    check_names(hints.titles, {view: group.box for view, group in its_own.items()})
+    groups = with_a_side(its_own)
     every = list(groups.values())
     sections = among_named(groups, outside, hints.sections, tolerance)
     cut = {id(run) for section in sections for run in section.group.runs}
@@ -321,6 +337,8 @@ def by_places(runs: Sequence[Run], hints: Hints) -> Placed:
     read are in the way, they are named."""
     try:
         return placed_by(runs, hints)
+    except OtherAngle:
+        raise
     except Refused as refusal:
         if not hints.curves:
             raise
@@ -383,17 +401,33 @@ def placed_by(runs: Sequence[Run], hints: Hints) -> Placed:
         count = len(ways[0].views)
         if count < len(views):
             found.append(noted.found(f"{many(len(views), 'group')} of lines taken as {count} views, parted by cuts upwards and across", len(views)))
+    said = said_of(ways, hints)
+    ways = [way for way in ways if said.angle in ("", way.angle)] if len(ways) > 1 else ways
     if len(ways) != 1:
         refuse_in_place(groups, kept, cut, hints)
         told = [f"\n  group {number + 1} is a section, since {why}" for number, why in cut.items()]
         raise no_way(groups, chosen, ways, hints).with_words("".join(told))
     way = ways[0]
+    if said.angle not in ("", way.angle):
+        raise OtherAngle(said)
     others = [group for group in chosen if not any(group is it for it in way.views.values())]
     left += beside(groups, others, title_blocks(around, list(way.views.values()), hints.tolerance), hints)
     front, top = way.views["FRONT"], way.views["TOP"]
     sizes = f"{front.width:.9g} wide, {top.height:.9g} deep and {front.height:.9g} high"
     found.append(noted.found(f"{way.angle}-angle views, {way}: a part {sizes}"))
-    return Placed(with_a_side(way.views), is_mirrored(way.views), [*found, *left], sections=it.sections)
+    if said.angle:
+        found.append(noted.found(f"{said.angle} angle, as the text {said.words} says"))
+    return Placed(with_a_side(way.views), is_mirrored(way.views), [*found, *left], sections=it.sections, angle=way.angle, angle_by=said.words)
+
+
+def said_of(ways: Sequence[Way], hints: Hints) -> Said:
+    """The angle that texts of the sheet say, where the user doesn't say one and all ways have the same FRONT."""
+    if hints.angle or not ways or any(way.views["FRONT"].box != ways[0].views["FRONT"].box for way in ways):
+        return Said("")
+    try:
+        return angle_said(hints.titles, hints.projection, {view: group.box for view, group in ways[0].views.items()})
+    except Contradicted as refusal:
+        raise refusal.with_words(f": say which angle is meant by {option('angle', 'third')} or {option('angle', 'first')}") from None
 
 
 def refuse_in_place(groups: Sequence[Group], kept: Sequence[Group], cut: dict[int, Why], hints: Hints) -> None:

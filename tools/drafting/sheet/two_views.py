@@ -5,7 +5,7 @@ angle TOP stands below FRONT, and to the right of FRONT the left side view. Whic
 part: it is the same one, turned.
 """
 import itertools
-from collections.abc import Sequence
+from collections.abc import Mapping, Sequence
 
 from ..core import notes
 from ..core.advice import InTheWay
@@ -13,7 +13,7 @@ from ..core.messages import Refused
 from ..messages.controls import option
 from .groups import NEARLY_AS_LARGE, Group, has_extent, holds, title_blocks
 from .placement import (
-    Hints, Placed, Standing, Way, by_places as three_by_places, beside, in_line, is_mirrored, numbers_told, standing, stretches_of,
+    Hints, Placed, Standing, Way, by_places as three_by_places, beside, in_line, is_mirrored, numbers_told, said_of, standing, stretches_of,
     view_named, ways_of, why_no_view, with_a_side, without_told
 )
 from ..dxf.reader import Source
@@ -27,6 +27,24 @@ class TwoReadings(Refused):
         rows = "".join(f"\n  {option('angle', way.angle)}, {reading_told(way, groups)}" for way in ways)
         super().__init__(f"two views in line may be read in two ways, and which one is meant has to be said:{rows}", "angle", [way.angle for way in ways])
         self.angles = [way.angle for way in ways]
+
+
+class AngleOpen(Refused):
+    """Views that may be read in third or in first angle: each gives solids, and these aren't the same part. `gives` says in words what each gives."""
+
+    def __init__(self, gives: Mapping[str, str]) -> None:
+        rows = "".join(f"\n  {option('angle', angle)}: {words}" for angle, words in gives.items())
+        super().__init__("the views can be read in third angle or in first angle, and these are different parts: mirror images, mostly. Say which "
+                         f"angle is meant:{rows}", "angle", list(gives))
+        self.gives = dict(gives)
+
+
+class AngleContradicted(Refused):
+    """Texts of the sheet say an angle in which no solid has its views, and in the other one some solid has them."""
+
+    def __init__(self, angle: str, texts: str, other: str, words: str) -> None:
+        super().__init__(f"the text {texts} says {angle} angle, in which no solid matches the views; in {other} angle {words}. Correct the text, or say "
+                         f"{option('angle', other)}", "angle", [other])
 
 
 def number_in(groups: Sequence[Group], group: Group) -> int:
@@ -117,13 +135,16 @@ def pair_of(runs: Sequence[Run], hints: Hints) -> Placed | None:
         return None
     refuse_bare_frame(it, views, hints)
     refuse_third(it, views, hints)
-    if len(ways) > 1:
+    said = said_of(ways[:1], hints)
+    ways = [way for way in ways if said.angle in ("", way.angle)]
+    if len(ways) != 1:
         raise TwoReadings(ways, it.groups)
     way = ways[0]
     others = [group for group in it.chosen if not any(group is view for view in views)]
     left = [*it.left, *beside(it.groups, others, title_blocks(it.around, views, hints.tolerance), hints)]
     its = with_a_side(way.views)
-    return Placed(its, is_mirrored(way.views), [notes.found(f"{way.angle}-angle views, {way}{without_told(its)}"), *left], sections=it.sections)
+    return Placed(its, is_mirrored(way.views), [notes.found(f"{way.angle}-angle views, {way}{without_told(its)}"), *left], sections=it.sections,
+                  angle_by=said.words)
 
 
 def by_places(runs: Sequence[Run], hints: Hints) -> Placed:

@@ -18,15 +18,14 @@ from ..dxf.drawing import (
 from ..messages.controls import option
 from ..projection.draw import Sheet, sheet_of
 from ..projection.sections import layers_in, views_told
-from ..recon import faults, process, many
+from ..recon import faults, process
 from ..recon.answer import Answer, answer_of, turned_back
 from ..rounds.features import given_in
 from ..rounds.verify import Kept
 from ..sheet import view_files, pipeline as sheet
 from ..sheet.back_to_sheet import Paper
 from ..sheet.scale import is_likely as likely_size
-from ..sheet.two_views import TwoReadings
-from . import readings
+from . import arrangements, readings
 from .readings import Readings
 
 # What recon passes over and a sheet is compared with: its sizes, and which views are sections.
@@ -282,38 +281,6 @@ def of_readable_sheet(path: str, lines: list[str], arguments: argparse.Namespace
         return None
 
 
-def drawn_of(path: str | None, arguments: argparse.Namespace, tell: Tell) -> sheet.Drawn:
-    """What a sheet is drawn as; of two views whose angle isn't told, in the one in which some solid has them, where none has in the other."""
-    said: list[Note] = []
-    try:
-        return sheet.draw_readings(path, arguments, said.append)
-    except TwoReadings as refusal:
-        said.clear()
-        known = angle_of(path, arguments, refusal)
-        said.append(notes.found(f"two views, in {known.angle} angle, since in the other no solid has them"))
-        return sheet.draw_readings(path, known, said.append)
-    finally:
-        for note in said:
-            tell(note)
-
-
-def angle_of(path: str | None, arguments: argparse.Namespace, refusal: TwoReadings) -> argparse.Namespace:
-    """The arguments with the angle in which alone some solid has two views; refused where there is no such one, or hidden lines aren't drawn."""
-    if getattr(arguments, "visible_edges_alone", False):
-        raise refusal
-    outcomes = {}
-    for angle in refusal.angles:
-        known = argparse.Namespace(**{**vars(arguments), "angle": angle})
-        drawn = sheet.draw(path, known, notes.tell_none)
-        words = ["solve", process.TWO_VIEWS, *decimals_words(("solve",), drawn.decimals)]
-        outcomes[angle] = known, many.outcome(process.find(arguments.program), words, drawn.text.encode())
-    fitting = [known for known, outcome in outcomes.values() if outcome.count or outcome.more]
-    if len(fitting) == 1:
-        return fitting[0]
-    told = "; ".join(f"in {angle} angle {outcome.words}" for angle, (_, outcome) in outcomes.items())
-    raise refusal.with_words(f"\n  recon lists {told}")
-
-
 def is_taken(path: str, arguments: argparse.Namespace) -> bool:
     """Whether the program takes a file as it is, as the least search tells."""
     lines = [] if documents.is_document(path) else lines_of(path)
@@ -327,7 +294,7 @@ def is_taken(path: str, arguments: argparse.Namespace) -> bool:
 def of_sheet(path: str | None, arguments: argparse.Namespace, tell: Tell, command: tuple[object, ...]) -> Asked:
     """Asks the program about what a sheet is drawn as; of a sheet with rounds about the first reading of which a solid is kept."""
     try:
-        drawn = drawn_of(path, arguments, tell)
+        drawn = arrangements.drawn_of(path, arguments, tell, ask_all(arguments))
         # What is asked of the drawing later on reads its sections too.
         is_new, arguments.sections = drawn.has_sections and not arguments.sections, drawn.has_sections or arguments.sections
         rounds = readings.readings(drawn, ask_all(arguments), arguments) if given_in(lines_within(drawn.text.encode())) else None
