@@ -33,6 +33,7 @@ from . import outlines, view_files, two_views, scale, titles
 from .back_to_sheet import Paper
 from .exploded_dimensions import without_dimensions
 from .groups import Group
+from .half_views import refuse_half
 from .overlapping import moved_apart
 from .placement import Hints, OtherAngle, Placed, by_names, extents_of, main_named, named_views, numbers_of, view_named
 from .turned import turned
@@ -532,6 +533,7 @@ def draw_straight(path: str | None, sheet: Sheet, marks: Sequence[Mark], argumen
 def checked_views(path: str | None, sheet: Sheet, edges: Sequence[Edge], marks: Sequence[Mark], arguments: argparse.Namespace, tell: Tell) -> Placed:
     """The views of a sheet; refused where something in them can't be read."""
     placed = found_views(path, sheet, edges, marks, arguments, tell)
+    refuse_half({view: group.box for view, group in placed.views.items()}, sheet.edges, sheet.chains, arguments.tolerance)
     left = refuse_unread(path, placed, sheet.unread, arguments.tolerance)
     left.update(refuse_covered(path, placed, sheet.covers, arguments.tolerance))
     for note in noted.counted("left out", left):
