@@ -29,7 +29,7 @@ from ..messages.controls import command, option, without
 from ..sections import layers as section_views
 from ..sections.cutting_plane_marks import Mark, marks_of, without_marks, words_of as words_of_sheet
 from ..sections.recognize import labels_of, sections_of
-from . import outlines, view_files, two_views, scale, titles
+from . import noise, outlines, view_files, two_views, scale, titles
 from .back_to_sheet import Paper
 from .exploded_dimensions import without_dimensions
 from .groups import Group
@@ -458,6 +458,7 @@ def draw_upright(path: str | None, arguments: argparse.Namespace, tell: Tell) ->
     if not 0 < arguments.tolerance < 1e6:
         raise Refused(f"no tolerance: {arguments.tolerance}")
     sheet, marks = edges_of(path, arguments, tell)
+    sheet, arguments = without_noise(path, sheet, marks, arguments, tell)
     try:
         refuse_missing(path, sheet.missing)
         moved_apart(sheet, arguments.tolerance, tell)
@@ -467,15 +468,53 @@ def draw_upright(path: str | None, arguments: argparse.Namespace, tell: Tell) ->
         drawn = pipeline.first(path, sheet, marks, arguments, tell)
         return drawn._replace(refused=drawn.refused and advised(path, sheet, arguments, drawn.refused))
     except Refused as refusal:
-        raise advised(path, sheet, arguments, with_named(path, sheet, arguments, refusal)) from None
+        raise advised(path, sheet, arguments, with_ways(path, sheet, arguments, refusal)) from None
 
 
-def with_named(path: str | None, sheet: Sheet, arguments: argparse.Namespace, refusal: Refused) -> Refused:
-    """A refusal with the layers that were left out by their names and with which the sheet is drawn, unless it is tried for another refusal."""
+def without_noise(
+    path: str | None, sheet: Sheet, marks: Sequence[Mark], arguments: argparse.Namespace, tell: Tell
+) -> tuple[Sheet, argparse.Namespace]:
+    """The sheet without the noise of its coordinates, and the arguments with the tolerance that was found; both as they are where there is none,
+    or it isn't told from details."""
+    if sheet.page or sheet.seen or not sheet.edges or any(edge.source.file for edge in sheet.edges):
+        return sheet, arguments
+    edges = noise.with_squares(sheet)
+
+    def place(tolerance: float) -> Placed | None:
+        try:
+            return found_views(path, sheet, edges, marks, with_tolerance(arguments, tolerance), noted.tell_none)
+        except Refused:
+            return None
+
+    is_said = arguments.tolerance != TOLERANCE
+    slant = noise.slant_of(sheet.edges, TOLERANCE)
+    if not is_said and not slant and noise.is_plain(sheet.edges):
+        return sheet, arguments
+    tried = [arguments.tolerance] if is_said else [it for it in (TOLERANCE, *noise.TRIED) if it >= slant]
+    found = next((it for one in tried if (it := noise.found_with(sheet, one, TOLERANCE, place))), None)
+    if found is None or found.grid.off <= noise.EXACT and not slant or not (is_said or found.is_clear):
+        return sheet, arguments
+    way = "" if is_said else f", as with {option('tolerance', f'{found.tolerance:g}')}"
+    tell(noted.found(f"coordinates are off by up to {max(found.grid.off, slant / 2):.2g} from multiples of {found.grid.unit:.6g}, which is noise: each "
+                     f"was moved to its multiple{way}"))
+    return noise.without(sheet, found), with_tolerance(arguments, found.tolerance)
+
+
+def with_tolerance(arguments: argparse.Namespace, tolerance: float) -> argparse.Namespace:
+    return argparse.Namespace(**{**vars(arguments), "tolerance": tolerance})
+
+
+def with_ways(path: str | None, sheet: Sheet, arguments: argparse.Namespace, refusal: Refused) -> Refused:
+    """A refusal with what was tried and draws the sheet, unless it is tried for another one: the layers that were left out by their names, as
+    visible; and where lines are a little off from level or upright a greater tolerance."""
     if isinstance(refusal, Advisable) or getattr(arguments, "is_tried", False):
         return refusal
     layers = outlines.left_by_names(sheet, choices_of(arguments))
-    return with_layers(refusal, [it for it in layers if is_drawn(path, arguments, visible=[*arguments.visible, f"layer={it}"])])
+    slant = noise.slant_of(sheet.edges, arguments.tolerance)
+    wider = next((it for it in noise.TRIED if slant and it >= slant and is_drawn(path, arguments, tolerance=it)), None)
+    told = with_layers(refusal, [it for it in layers if is_drawn(path, arguments, visible=[*arguments.visible, f"layer={it}"])])
+    way = option("tolerance", f"{wider:g}") if wider else ""
+    return told.with_words(f"\n  lines are off from level or upright by up to {slant:.2g}: where that is noise, say {way}") if way else told
 
 
 def is_drawn(path: str | None, arguments: argparse.Namespace, **more: Any) -> bool:

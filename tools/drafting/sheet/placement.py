@@ -32,6 +32,9 @@ ONE = "stands a group that is no view of the same part where it stands, and whet
 SEVERAL = "stand groups that are no views of the same part where they stand, and whether they are of another isn't told; they are left out by"
 # How many groups or curves a refusal names.
 MOST_NAMED = 12
+# How far views may be shifted against one another, as a part of the largest group that may be one; and of how many runs that is tried.
+SHIFT, MOST_SHIFTED = 0.05, 3000
+WAYS = (("to the left", "to the right"), ("down", "up"))
 # How many ways to part a sheet by cuts are looked at; else those by one cut upwards and one across.
 MOST_CUTS = 20_000
 
@@ -61,6 +64,8 @@ class Hints(NamedTuple):
     curves: Sequence[Unread] = ()
     titles: Sequence[Title] = ()
     projection: Said = Said("")
+    # How far views may be shifted against one another, beyond the tolerance.
+    shift: float = 0.0
 
 
 class OtherAngle(Refused):
@@ -223,10 +228,10 @@ class InLine(NamedTuple):
     above: list[Group]
 
 
-def in_line(front: Group, groups: Sequence[Group], tolerance: float) -> InLine:
+def in_line(front: Group, groups: Sequence[Group], tolerance: float, shift: float = 0.0) -> InLine:
     def beside(axis: int) -> tuple[list[Group], list[Group]]:
         box, ends = front.box, (1 - axis, 3 - axis)
-        lined = [it for it in groups if it is not front and all(abs(it.box[at] - box[at]) <= 3 * tolerance for at in ends)]
+        lined = [it for it in groups if it is not front and all(abs(it.box[at] - box[at]) <= 3 * tolerance + shift for at in ends)]
         before = [it for it in lined if it.box[axis + 2] <= box[axis] + tolerance]
         behind = [it for it in lined if it.box[axis] >= box[axis + 2] - tolerance]
         return sorted(before, key=lambda it: -it.box[axis + 2]), sorted(behind, key=lambda it: it.box[axis])
@@ -238,7 +243,7 @@ def ways_of(groups: Sequence[Group], hints: Hints) -> Iterator[Way]:
     """The ways to take groups as the views: TOP right above or below FRONT, a side view beside it, and of the others those that stand
     where they have to."""
     for front in groups:
-        it = in_line(front, groups, hints.tolerance)
+        it = in_line(front, groups, hints.tolerance, hints.shift)
         for angle, tops, bottoms, rights, lefts in (
             ("third", it.above, it.below, it.right, it.left), ("first", it.below, it.above, it.left, it.right)
         ):
@@ -340,12 +345,38 @@ def by_places(runs: Sequence[Run], hints: Hints) -> Placed:
     except OtherAngle:
         raise
     except Refused as refusal:
+        if shifted := placed_shifted(runs, hints):
+            return shifted
         if not hints.curves:
             raise
         try:
             return placed_by(runs, hints._replace(curves=()))
         except Refused:
             raise refusal.with_words(curves_told(hints.curves)) from None
+
+
+def placed_shifted(runs: Sequence[Run], hints: Hints) -> Placed | None:
+    """The views where they aren't quite in line, as where one was moved by hand: the lengths that two of them share are the same, and by so small
+    a shift there is one way to take them."""
+    if len(runs) > MOST_SHIFTED:
+        return None
+    try:
+        size = max(max(group.width, group.height) for group in standing(runs, hints).kept)
+        placed = placed_by(runs, hints._replace(shift=SHIFT * size))
+    except Refused:
+        return None
+    return placed._replace(notes=[*placed.notes, *shifts_of(placed.views, hints.tolerance)])
+
+
+def shifts_of(views: Mapping[str, Group], tolerance: float) -> Iterator[Note]:
+    """By how much views aren't in line with FRONT."""
+    front = views["FRONT"].box
+    for view, group in views.items():
+        axis = 0 if FRAMES[view].right == FRAMES["FRONT"].right and FRAMES[view].up != FRAMES["FRONT"].up else 1
+        off = group.box[axis] - front[axis]
+        if abs(off) > 3 * tolerance:
+            yield noted.found(f"{view} is {abs(off):.6g} too far {WAYS[axis][off > 0]} to be in line with FRONT; it is read as in line, since their "
+                              "lengths agree", view=view)
 
 
 def curves_told(curves: Sequence[Unread]) -> str:

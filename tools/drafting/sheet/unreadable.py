@@ -118,4 +118,6 @@ def refuse_hidden_outline(placed: Placed, choices: Sequence[Choice], tolerance: 
 def with_layers(refusal: Refused, layers: Sequence[str]) -> Refused:
     """A refusal with the layers that were left out by their names, by each of which the sheet was drawn when it was tried as visible."""
     words = " or ".join(option("visible", f"layer={it}") for it in layers)
-    return refusal.with_words(f"\n  a layer was left out by its name, and with it the views are there: where it is one of edges, say {words}") if words else refusal
+    if not words:
+        return refusal
+    return refusal.with_words(f"\n  a layer was left out by its name, and with it the views are there: where it is one of edges, say {words}")
