@@ -11,9 +11,8 @@ from typing import Any
 from drafting.cli import commands
 from drafting.core import notes
 from drafting.core.messages import Refused
-from drafting.core.verdict import Doubt
 from drafting.projection.draw import Cell, shown_of, strokes_shown
-from drafting.recon.answer import Answer, Face, Solid, answer_of
+from drafting.recon.answer import Answer, Face, Solid
 from drafting.sheet.titles import Said, Text, angle_said, projection_in, titled, titles_in, views_in
 from drafting.sheet.two_views import AngleContradicted, AngleOpen
 from drafting.solve import arrangements, pipeline
@@ -139,7 +138,11 @@ class Rotations(unittest.TestCase):
         self.assertTrue(arrangements.are_same([box(1, 2, 3)], [box(1, 2, 3)]))
 
 
-# A part whose views are also those of another part in the other angle: found by search among small solids.
+# Two blocks, whose three views in third angle are also those of their mirror image in first angle; and a step that has its views in one angle alone.
+BLOCKS = {(0, 0, 0), (0, 0, 1), (1, 0, 0), (1, 0, 1), (2, 1, 1), (2, 1, 2)}
+STEP = {(x, y, z) for x, y, z in itertools.product(range(4), range(3), range(3)) if not (x and z == 2 or x == 3 and y == 0)}
+
+
 @needs_module("ezdxf", "python3-ezdxf")
 @needs_program()
 class Arrangements(unittest.TestCase):
@@ -147,6 +150,30 @@ class Arrangements(unittest.TestCase):
         folder = tempfile.TemporaryDirectory()
         self.addCleanup(folder.cleanup)
         self.file = pathlib.Path(folder.name) / "sheet.dxf"
+
+    def test_both_angles_give_a_part(self) -> None:
+        """The question names both angles; each answer gives its own hand, and titles answer it too."""
+        views = views_of(BLOCKS, ("FRONT", "TOP", "SIDE"))
+        drawn(self.file, views, "third")
+        with self.assertRaisesRegex(AngleOpen, "(?s)--angle third: .*1 solid.*--angle first: .*1 solid"):
+            asked(self.file)
+        self.assertTrue(lists(asked(self.file, "--angle", "third"), BLOCKS))
+        self.assertTrue(lists(asked(self.file, "--angle", "first"), mirrored(BLOCKS)))
+        for angle, texts in (("third", (("TOP", "TOP VIEW"),)), ("first", (("TOP", "BOTTOM VIEW"),)), ("first", (("", "FIRST ANGLE PROJECTION"),))):
+            drawn(self.file, views, "third", texts)
+            with self.subTest(texts):
+                self.assertTrue(lists(asked(self.file), BLOCKS if angle == "third" else mirrored(BLOCKS)))
+
+    def test_a_text_that_no_solid_bears_out(self) -> None:
+        drawn(self.file, views_of(STEP, ("FRONT", "TOP", "SIDE")), "third", (("", "FIRST ANGLE PROJECTION"),))
+        with self.assertRaisesRegex(AngleContradicted, "says first angle, in which no solid matches the views; in third angle 1 solid.*--angle third"):
+            asked(self.file)
+        self.assertTrue(lists(asked(self.file, "--angle", "third"), STEP))
+
+    def test_a_bottom_view_above_front(self) -> None:
+        """In first angle: only there a solid has the views, so nothing is asked."""
+        drawn(self.file, views_of(STEP, ("FRONT", "BOTTOM", "LEFT")), "first")
+        self.assertTrue(lists(asked(self.file), STEP))
 
     def test_random_parts(self) -> None:
         """Three to six views of random parts, as FRONT stands in the middle."""
