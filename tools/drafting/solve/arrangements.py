@@ -69,7 +69,8 @@ def drawn_of(path: str | None, arguments: argparse.Namespace, tell: Tell, ask: r
     else:
         angle, has_doubt = "", False
     if angle or drawn is None:
-        said = [notes.found(f"views in {angle} angle, since in the other no solid has them")]
+        which = "two views, in" if isinstance(why, TwoReadings) else "views in"
+        said = [notes.found(f"{which} {angle} angle, since in the other no solid has them")]
         drawn = sheet.draw_readings(path, with_angle(arguments, angle), said.append)
     for note in said:
         tell(note)
