@@ -22,13 +22,20 @@ from .cutting_plane_marks import Mark, Word, corners_of, distance, is_head, word
 # What says section, in the languages of linetypes and layers; not where a line or a plane is meant, or a cut-out.
 WORDS = (
     r"(?:(?:cross|half|full|quer|längs|laengs|halb|voll|teil)[-_ ]?)?(?:sections?|sect|schnitt(?:ansicht|bild|darstellung)?|coupes?|"
-    r"sezion[ei]|sez|secci[oó]n(?:es)?|cortes?|snitt|doorsneden?|przekr[oó]j|leikkaus|řez)"
+    r"sezion[ei]|sez|secci[oó]n(?:es)?|cortes?|snitt|doorsneden?|przekr[oó]j|leikkaus|řez|"
+    r"metszet|разрез|сечение|розріз|переріз|τομή|断面図?|剖面图?|剖視圖?|剖视图?|단면도?)"
 )
+# Words that say so in labels alone: on layers they may mean something else.
+SHORT = r"(?:sec|ci[eę]cie|kesit|rez)"
 # In the name of a layer a number or a letter may follow, as in SectionA; a line or a plane is meant otherwise.
 NAMED = re.compile(rf"(?<![^\W\d_]){WORDS}(?:[A-Z]?(?![^\W\d_])|(?=view))(?![-_ ]?(?:line|linie|ligne|plane|ebene|verlauf|mark))", re.I)
 # A label: SECTION A-A, A-A, SCHNITT B, with a scale behind it.
 LETTER = r"[^\W\d_]\d?['′]?"
-LABEL = re.compile(rf"(?:(?P<word>{WORDS})\b[.:]?)?\s*(?:(?P<letter>{LETTER})\s*(?:[-–—]\s*(?P=letter))?|(?P<twice>[A-Z])(?P=twice))?"
+# Dashes and minus signs of all scripts; and Roman numerals, or behind a word for section plain ones, in place of letters.
+DASH = "[-\u00ad\u2010-\u2015\u2212\u2e3a\u2e3b\u30fc\ufe58\ufe63\uff0d]"
+MARKS = rf"(?:[IVX]{{1,4}}(?=\s*{DASH})|(?(word)\d{{1,2}}|(?!)))"
+LABEL = re.compile(rf"(?:(?P<word>{WORDS}|{SHORT})(?:\b|(?<=[\u2e80-\uffdc]))[.:]?)?\s*"
+                   rf"(?:(?P<letter>{MARKS}|{LETTER})\s*(?:{DASH}\s*(?P=letter))?|(?P<twice>[A-Z])(?P=twice))?"
                    r"(?:\s*[(\[]?\s*(?:scale|ma(?:ss|ß)stab|m|éch\.?|[eé]chelle|scala|escala)?\s*[:=]?\s*"
                    r"\d+(?:\.\d+)?\s*[:/]\s*\d+\s*[)\]]?)?", re.I)
 # How far from its group a label may stand, in heights of its letters; how much nearer than another one it has to be; and how small a
@@ -209,7 +216,7 @@ def sides_of(kept: Kept) -> Iterator[tuple[Box, bool, Kept]]:
 def label_in(word: Word) -> str | None:
     """The letter of a label of a section, or nothing where it has none; None where a text is no such label."""
     found = LABEL.fullmatch(word.text)
-    if not found or not (found["word"] or found["letter"] and re.search(r"[-–—]", word.text)):
+    if not found or not (found["word"] or found["letter"] and re.search(DASH, word.text)):
         return None
     return (found["letter"] or found["twice"] or "").rstrip("'′").upper()
 
