@@ -1,5 +1,6 @@
 """Where an entity's points lie on the sheet. Texts, hatches, inserts and polylines have theirs in a system of their own, whose x runs to the left
 where the entity is seen from below, as it is in a mirrored block. Nothing else reads coordinates of these kinds."""
+import math
 from collections.abc import Callable
 from typing import Any
 
@@ -28,3 +29,20 @@ def placing(entity: Any) -> Callable[[Any], Place]:
 
 # Kinds whose points are the sheet's own, whatever their extrusion says (DXF Reference, "Object Coordinate Systems").
 IN_THE_SHEET = ("LINE", "POINT", "MTEXT", "LEADER", "3DFACE", "SPLINE", "ELLIPSE", "MLINE", "IMAGE", "WIPEOUT")
+
+
+def direction(entity: Any, angle: float) -> Place:
+    """Where an angle of an entity points on the sheet, as a vector of length 1; angles are in degrees from its own x on, those of dimensions too,
+    whose points are the sheet's."""
+    turn = math.radians(angle)
+    extrusion = entity.dxf.get("extrusion")
+    if extrusion is None or entity.dxftype() in IN_THE_SHEET or (extrusion.x, extrusion.y, extrusion.z) == (0.0, 0.0, 1.0):
+        return math.cos(turn), math.sin(turn)
+    way = entity.ocs().to_wcs((math.cos(turn), math.sin(turn), 0.0))
+    return way.x, way.y
+
+
+def angle(entity: Any, angle: float) -> float:
+    """An angle of an entity on the sheet, in degrees."""
+    x, y = direction(entity, angle)
+    return math.degrees(math.atan2(y, x))

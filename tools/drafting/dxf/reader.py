@@ -319,10 +319,10 @@ class Reader:
 
     def insert(self, insert: Any, look: Look, around: Around) -> None:
         name = insert.dxf.name
-        place = insert.dxf.insert
         if self.arrows.is_acad_arrow(self.arrows.arrow_name(name)) or self.arrows.is_ezdxf_arrow(self.arrows.arrow_name(name)):
-            source, size, turned = self.source(insert, "INSERT", look, around), insert.dxf.get("xscale", 1.0), math.radians(insert.dxf.get("rotation", 0.0))
-            tip, tail = (place.x, place.y), (place.x - size * math.cos(turned), place.y - size * math.sin(turned))
+            source, size = self.source(insert, "INSERT", look, around), insert.dxf.get("xscale", 1.0)
+            tip, way = places.of(insert, insert.dxf.insert), places.direction(insert, insert.dxf.get("rotation", 0.0))
+            tail = tip[0] - size * way[0], tip[1] - size * way[1]
             self.sheet.arrows.append(Arrow([tip], abs(size), source, (tail, tip)))
             self.sheet.left[inserted(f"an arrow head {name}")] += 1
             return
@@ -393,7 +393,7 @@ class Reader:
                 self.arrow(entity, source)
             self.curve(entity, kind, style is Style.HIDDEN, look, source)
         elif kind == "LWPOLYLINE" and is_tapered(entity):
-            ends = [(x, y) for x, y in entity.get_points("xy")]
+            ends = [places.of(entity, it) for it in entity.get_points("xy")]
             points = (ends[0], ends[1]) if list(entity.get_points("se"))[0][1] == 0 else (ends[1], ends[0])
             sheet.arrows.append(Arrow(ends, math.dist(*ends), source, points))
             sheet.unread.append(Unread("is an arrow head", box_of(entity), source))
@@ -413,7 +413,7 @@ class Reader:
     def text(self, entity: Any) -> None:
         place = entity.dxf.get("insert")
         if place is not None:
-            self.sheet.texts.append((place.x, place.y))
+            self.sheet.texts.append(places.of(entity, place))
         self.sheet.scales |= {f"{told[1]}:{told[2]}" for told in SCALE.finditer(plain_text(entity))}
 
     def arrow(self, entity: Any, source: Source) -> None:

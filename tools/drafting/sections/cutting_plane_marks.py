@@ -10,7 +10,7 @@ from collections import defaultdict
 from collections.abc import Container, Iterator, Sequence
 from typing import Any, NamedTuple
 
-from ..dxf import curves
+from ..dxf import curves, places
 from ..dxf.drawing import Place
 from ..dxf.reader import HATCHES, TEXTS, Arrow, Box, Edge, Sheet, Source, box_of
 
@@ -69,7 +69,17 @@ def word_of(entity: Any, source: Source) -> Word | None:
     place = entity.dxf.get("insert") if is_long or not side else entity.dxf.get("align_point") or entity.dxf.get("insert")
     if not text or place is None:
         return None
-    return Word(text, (place.x + 0.35 * high * len(text) * (1 - side), place.y), high, source)
+    (x, y), ahead = places.of(entity, place), 0.35 * high * len(text) * (1 - side)
+    right, up = way_of(entity)
+    return Word(text, (x + ahead * right, y + ahead * up), high, source)
+
+
+def way_of(text: Any) -> Place:
+    """Which way a text is read on the sheet."""
+    if text.dxftype() == "MTEXT" and text.dxf.hasattr("text_direction"):
+        way = text.dxf.text_direction.normalize()
+        return way.x, way.y
+    return places.direction(text, text.dxf.get("rotation", 0.0))
 
 
 def words_of(sheet: Sheet) -> list[Word]:
@@ -77,8 +87,14 @@ def words_of(sheet: Sheet) -> list[Word]:
     return [word for word in found if word]
 
 
+def sides_of(hatch: Any) -> list[list[Place]]:
+    """The corners of each side of a hatch where they lie on the sheet, as `corners_of`."""
+    placed = places.placing(hatch)
+    return [list(map(placed, corners_of(path))) for path in hatch.paths]
+
+
 def corners_of(path: Any) -> list[Place]:
-    """The corners of a side of a hatch, whole quarters of circles as their sharp corners; none where it is bent otherwise."""
+    """The corners of a side of a hatch in its own coordinates, whole quarters of circles as their sharp corners; none where it is bent otherwise."""
     found: list[Place] = []
     for stretch in stretches_of(path):
         if stretch is None:
@@ -121,8 +137,7 @@ def squared_arc(centre: Place, radius: float, start: float, end: float) -> list[
 
 def is_head(hatch: Any) -> bool:
     """Whether a hatch is a filled triangle, as arrow heads are."""
-    paths = list(hatch.paths)
-    return bool(hatch.dxf.get("solid_fill", 0)) and len(paths) == 1 and len(set(corners_of(paths[0]))) == 3
+    return bool(hatch.dxf.get("solid_fill", 0)) and len(hatch.paths) == 1 and len(set(sides_of(hatch)[0])) == 3
 
 
 def points_of(corners: Sequence[Place]) -> tuple[Place, Place] | None:
@@ -148,7 +163,7 @@ def heads_of(sheet: Sheet, edges: Sequence[Edge], others: Sequence[Arrow], toler
             tail = kept.entity.vertices[1]
             yield Head((min(a, c), min(b, d), max(a, c), max(b, d)), kept.source, ((tail[0], tail[1]), (a, b)))
         elif kept.source.kind in HATCHES and is_head(kept.entity) and (box := box_of(kept.entity)):
-            yield Head(box, kept.source, points_of(corners_of(list(kept.entity.paths)[0])))
+            yield Head(box, kept.source, points_of(sides_of(kept.entity)[0]))
     yield from open_heads(edges, tolerance)
 
 

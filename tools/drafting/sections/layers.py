@@ -20,6 +20,7 @@ from ..core.advice import Advisable, GetsFurther, InTheWay
 from ..core.messages import Refused, many
 from ..core.notes import Tell
 from ..core.page import Page
+from ..dxf import places
 from ..dxf.drawing import Place, Stroke, number, pairs
 from ..dxf.reader import HATCHES, SCALE, Edge, Kept, Sheet, Source
 from ..geometry.segments import MOST_DECIMALS, Measure, Run
@@ -32,9 +33,9 @@ from ..rounds.rounds import OF_ONE
 from ..sheet.groups import Group, group_of, united
 from ..sheet.placement import Placed
 from .areas import Hatch, Segment, area_of, distinct
-from .cutting_plane_marks import Mark, Word, corners_of, is_head, words_of
+from .cutting_plane_marks import Mark, Word, is_head, sides_of, words_of
 from .cutting_planes import Plane, plane_of
-from .recognize import Cut, are_told, hatch_lines, holding, is_dot, lies_across, sides_of
+from .recognize import Cut, are_told, hatch_lines, holding, is_dot, lies_across, boxes_of
 
 # What a left view is called where it stands for SIDE, and all views are drawn in a mirror.
 MIRRORED = {"SIDE": "LEFT", "LEFT": "SIDE"}
@@ -252,14 +253,14 @@ def hatches_in(group: Group, groups: Sequence[Group], sheet: Sheet, tolerance: f
     """The hatches whose sides lie in a group, and in none of the others that is less."""
     for kept in sheet.kept:
         if kept.source.kind in HATCHES and not is_head(kept.entity):
-            its = list(sides_of(kept))
+            its = list(boxes_of(kept))
             if any(lies_across(group, box, is_filled, kept, tolerance) for box, is_filled, _ in its):
                 raise Refused(f"the {kept.source} reaches beyond its lines")
             if all(lies_in(group, groups, box, kept, tolerance) and not (is_filled and is_dot(box, group)) for box, is_filled, _ in its):
-                paths = [corners_of(path) for path in kept.entity.paths]
+                paths = sides_of(kept.entity)
                 if not paths or not all(paths):
                     raise Refused(f"the {kept.source} has a bent side")
-                angle = kept.entity.dxf.get("pattern_angle", 0.0) % 180
+                angle = places.angle(kept.entity, kept.entity.dxf.get("pattern_angle", 0.0)) % 180
                 yield Hatch(paths, str(kept.source), f"{kept.entity.dxf.get('pattern_name', '')} at {angle:.0f}")
 
 

@@ -17,7 +17,7 @@ from ..geometry.segments import Run
 from ..messages.controls import option
 from ..geometry.components import meet
 from ..sheet.groups import MOST_GROUPS, Group, holds, merged, pieces_of
-from .cutting_plane_marks import Mark, Word, corners_of, distance, is_head, words_of
+from .cutting_plane_marks import Mark, Word, distance, is_head, sides_of, words_of
 
 # What says section, in the languages of linetypes and layers; not where a line or a plane is meant, or a cut-out.
 WORDS = (
@@ -202,14 +202,15 @@ def hatch_lines(runs: Sequence[Run], tolerance: float) -> list[Run]:
     return most if len(loose) >= FEWEST_LINES else []
 
 
-def sides_of(kept: Kept) -> Iterator[tuple[Box, bool, Kept]]:
+def boxes_of(kept: Kept) -> Iterator[tuple[Box, bool, Kept]]:
     """The boxes of a hatch's sides; of a bent one the whole's."""
     is_filled = bool(kept.entity.dxf.get("solid_fill", 0))
-    for path in kept.entity.paths:
-        if its := corners_of(path):
+    sides = sides_of(kept.entity)
+    for its in sides:
+        if its:
             xs, ys = zip(*its)
             yield (min(xs), min(ys), max(xs), max(ys)), is_filled, kept
-    if not any(corners_of(path) for path in kept.entity.paths) and (box := box_of(kept.entity)):
+    if not any(sides) and (box := box_of(kept.entity)):
         yield box, is_filled, kept
 
 
@@ -241,7 +242,7 @@ def labels_of(sheet: Sheet) -> list[tuple[str, Word]]:
 
 def sections_of(sheet: Sheet, marks: Sequence[Mark], tolerance: float) -> Sections:
     """What of a sheet tells sections."""
-    hatches = [it for kept in sheet.kept if kept.source.kind in HATCHES and not is_head(kept.entity) for it in sides_of(kept)]
+    hatches = [it for kept in sheet.kept if kept.source.kind in HATCHES and not is_head(kept.entity) for it in boxes_of(kept)]
     lines = [(box, kept) for kept in sheet.kept if kept.source.kind == "LINE" and (box := box_of(kept.entity))]
     return Sections(hatches, lines, labels_of(sheet), marks, tolerance)
 

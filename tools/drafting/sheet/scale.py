@@ -15,6 +15,7 @@ from typing import Any, NamedTuple
 from ..core import notes
 from ..core.messages import Refused, many
 from ..core.notes import Tell
+from ..dxf import places
 from ..dxf.drawing import MILLIMETRES, Place
 from ..dxf.reader import Arrow, Box, Kept, Sheet, Source
 from ..messages.controls import option, without
@@ -134,8 +135,8 @@ def span_of(entity: Any, kind: int) -> tuple[float, Place, Place] | None:
     start, end = (entity.dxf.get(name) for name in names)
     length = math.dist((start.x, start.y), (end.x, end.y))
     if kind == LINEAR:
-        turn = math.radians(entity.dxf.get("angle", 0.0))
-        length = abs((end.x - start.x) * math.cos(turn) + (end.y - start.y) * math.sin(turn))
+        right, up = places.direction(entity, entity.dxf.get("angle", 0.0))
+        length = abs((end.x - start.x) * right + (end.y - start.y) * up)
     return (length, (start.x, start.y), (end.x, end.y)) if math.isfinite(length) and length > 0 else None
 
 
