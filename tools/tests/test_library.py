@@ -116,8 +116,8 @@ class Records(InAFolder):
     @needs_module("ezdxf", "python3-ezdxf")
     def test_why_no_solid_is_kept(self) -> None:
         plate_with_hole(self.room / "plate.dxf", (15, 25))
-        told = self.record(self.room / "plate.dxf")
-        self.assertEqual(told["count"], 0)
+        told = self.record(self.room / "plate.dxf", status=14)
+        self.assertEqual((told["count"], told["listed"], told["verdict"]["kind"]), (None, 0, "not_decided"))
         [cause] = told["rounds"]["cause"]
         self.assertIn("the circle of radius 5", cause)
         self.assertIn("isn't drawn", cause)
@@ -129,7 +129,7 @@ class Records(InAFolder):
             (self.room / f"{name}.dxf").write_bytes((EXAMPLES / f"{name}.dxf").read_bytes())
         (self.room / "letter.dxf").write_text("a letter\n")
         ended = draft("table", self.room, "--json", "--memory", 0)
-        self.assertEqual(ended.status, 0, ended.said)
+        self.assertEqual(ended.status, 15, ended.said)
         rows = {told["drawing"]["file"]: told for told in map(json.loads, ended.out.splitlines())}
         for told in rows.values():
             self.check(told)
@@ -177,6 +177,8 @@ class Library(InAFolder):
             answer.settle(meant=4)
         cut = recon.readfile(EXAMPLES / "quartered_cube.dxf", solids=2)
         self.assertEqual((cut.count, cut.is_whole, len(cut)), (None, False, 2))
+        self.assertEqual([(it.verdict.kind.value, it.verdict.is_decided, it.verdict.count) for it in (answer, cut)],
+                         [("ambiguous", True, 3), ("not_decided", False, 2)])
 
     def test_of_documents_and_again(self) -> None:
         import ezdxf
@@ -222,7 +224,7 @@ class Library(InAFolder):
             (lambda: recon.readfile(clevis, nope=1), recon.OptionError, "nope"), (lambda: recon.readfile(clevis, angle="no"), recon.OptionError, "angle"),
             (lambda: recon.readfile(), recon.OptionError, "a drawing is needed"), (lambda: recon.readfile(self.room / "a.dxf"), recon.SheetRefused, "no section"),
             (lambda: recon.readfile(clevis, program="/no"), recon.ProgramFailed, "/no"), (lambda: recon.readfile(clevis, seconds=0), recon.ProgramFailed, "longer"),
-            (lambda: recon.readfile(EXAMPLES / "eight_voids.dxf", solids=5, strict=True), recon.SearchCut, "cut solids 5"),
+            (lambda: recon.readfile(EXAMPLES / "eight_voids.dxf", solids=5, strict=True), recon.SearchCut, "the search stopped at --solids 5"),
         )
         for call, error, words in rows:
             with self.subTest(words), self.assertRaisesRegex(error, words) as raised:

@@ -77,7 +77,8 @@ class Asked(InAFolder):
             ended = draft("solve", self.file, "--sections")
             self.assertEqual((ended.status, ended.out), (1, ""))
             self.assertIn(words, ended.said)
-            self.assertEqual(draft("solve", self.file).status, 0)
+            # Without the option the section isn't read, and so it isn't decided which solids match.
+            self.assertEqual(draft("solve", self.file).status, 14)
 
     def test_a_log_certifies_it(self) -> None:
         log = self.folder / "drawing.log"
