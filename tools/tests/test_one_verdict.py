@@ -50,7 +50,7 @@ class OneVerdict(unittest.TestCase):
 
     def headline_of_page(self, name: str, words: tuple[str, ...]) -> str:
         """The word and the sentence of the page's end, as one line."""
-        end = next(it for line in draft("follow", EXAMPLES / name, *words).out.splitlines() if (it := json.loads(line))["kind"] == "end")
+        end = next(it for line in draft("follow", "--runs", 1, "--search", 1, EXAMPLES / name, *words).out.splitlines() if (it := json.loads(line))["kind"] == "end")
         found = re.search('<p class="word">(.*?)</p><p class="count">(.*?)</p>', end["html"])
         assert found
         return f"{found[1]}: {found[2][0].lower()}{found[2][1:].rstrip('.')}"

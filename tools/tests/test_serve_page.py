@@ -210,7 +210,7 @@ class Table(Opened):
         self.browser.give("document.querySelector('[name=second]')", visible)
         self.press(button("Read it so"))
         self.browser.until(f"({IS_OVER}) && viewer.model.count > 0", PATIENCE)
-        self.assertRegex(self.text(".told"), "(no|one|\\d+) solids? match(es)? this drawing")
+        self.assertRegex(self.text(".told"), "(No|One|\\d+) solids? match(es)? this drawing")
         self.assertTrue(re.search("mm", self.text(".drawing")) or self.text(".said"))
         self.picture("freecad")
 
