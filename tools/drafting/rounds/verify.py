@@ -7,9 +7,9 @@ from fractions import Fraction
 from typing import Any, NamedTuple
 
 from ..core.messages import Progress, Refused, many
-from ..core.verdict import Reason
+from ..core.verdict import Doubt, Reason
 from ..recon.answer import Answer, Solid
-from . import holes
+from . import holes, round_layers
 from .cones import Fitted, choices, volume_by_pi
 from .features import Given
 from .restore import Drawn, volume_of, ways_of
@@ -87,8 +87,9 @@ def outcome(answer: Answer, given: Given, decimals: int) -> Outcome:
     result = Outcome(answer.listed, 0, [], [], with_shapes is not None, max(0, answer.listed - MOST), given.kinds)
     for number, solid in enumerate(answer.solids[:MOST], 1):
         Progress.show(f"solid {number:,} of {len(answer.solids):,} is rounded back")
-        some, why = rounded_back(number, solid, given, unit, with_shapes)
+        some, why, reasons = rounded_back(number, solid, given, unit, with_shapes)
         result.kept.extend(some)
+        result = result._replace(reasons=tuple(dict.fromkeys((*result.reasons, *reasons))))
         if not some and why:
             result.others.append(f"solid {number}: {why}")
         elif not some:
@@ -102,32 +103,54 @@ def by_tangent_edges(result: Outcome) -> Outcome:
     if all(one.doubt for one in result.kept):
         return result
     others = [f"solid {one.number}: {one.doubt}" for one in result.kept if one.doubt]
-    return result._replace(kept=[one for one in result.kept if not one.doubt], others=[*result.others, *others])
+    if not others:
+        return result
+    reason = Reason(Doubt.TANGENT_EDGES_DIFFER, f"May miss: {many(len(others), 'solid')} that would match if the sheet drew other tangent edges.",
+                    (("solids", len(others)),))
+    return result._replace(kept=[one for one in result.kept if not one.doubt], others=[*result.others, *others], reasons=(*result.reasons, reason))
 
 
-def rounded_back(number: int, solid: Solid, given: Given, unit: int, with_shapes: tuple[Any, Any] | None) -> tuple[list[Kept], str]:
-    """A solid rounded back, in all ways for which the formula holds, else in the first other one; or why it isn't kept; nothing where it
-    can't be rounded back at all."""
+def rounded_back(
+    number: int, solid: Solid, given: Given, unit: int, with_shapes: tuple[Any, Any] | None
+) -> tuple[list[Kept], str, tuple[Reason, ...]]:
+    """A solid rounded back, in all ways for which the formula holds, else in the first other one, each with all choices of round layers that its
+    views allow; or why it isn't kept, nothing where it can't be rounded back at all; and what isn't tried."""
     some: list[Kept] = []
     why = ""
-    for way, by_formula in ways_of(solid, given, unit):
+    reasons: list[Reason] = []
+    seen: list[list[Drawn]] = []
+    for every, by_formula in ways_of(solid, given, unit):
         if some and not by_formula:
             break
-        if with_shapes is None and not (by_formula and not given.is_crossed):
-            why = why or f"{'crossed by holes' if given.is_crossed else 'cut by walls'}, which needs FreeCAD"
-            continue
-        every = choices(solid, way, given, unit)
-        why = why or ("" if every else "its holes and bosses don't have the places of all cones")
-        for chosen in every:
-            volume = None
-            if by_formula and not given.is_crossed:
-                plain, by_pi = volume_of(solid, way, unit, given.moved)
-                volume = plain, by_pi + volume_by_pi(chosen, unit, given.moved) + holes.volume_by_pi(solid, way, given, unit)
-            try:
-                shape, doubt = shape_and_doubt(solid, Rounds(way, chosen, by_formula), given, unit, with_shapes) if with_shapes else (None, "")
-                some.append(Kept(number, solid, volume, shape, doubt))
-            except Refused as refusal:
-                why = why or str(refusal)
+        its = round_layers.ways(solid, every, given, unit)
+        reasons += its.reasons
+        for way in (it for it in its.made if it not in seen):
+            seen.append(way)
+            more, cause = in_one_way(number, solid, (way, by_formula), given, unit, with_shapes)
+            some += more
+            why = why or cause
+    return some, why, tuple(dict.fromkeys(reasons))
+
+
+def in_one_way(
+    number: int, solid: Solid, its: tuple[list[Drawn], bool], given: Given, unit: int, with_shapes: tuple[Any, Any] | None
+) -> tuple[list[Kept], str]:
+    """A solid rounded back in one way, for which the volume's formula holds or doesn't; or why it isn't kept."""
+    (way, by_formula), some = its, list[Kept]()
+    if with_shapes is None and not (by_formula and not given.is_crossed):
+        return [], f"{'crossed by holes' if given.is_crossed else 'cut by walls'}, which needs FreeCAD"
+    every = choices(solid, way, given, unit)
+    why = "" if every else "its holes and bosses don't have the places of all cones"
+    for chosen in every:
+        volume = None
+        if by_formula and not given.is_crossed:
+            plain, by_pi = volume_of(solid, way, unit, given.moved)
+            volume = plain, by_pi + volume_by_pi(chosen, unit, given.moved) + holes.volume_by_pi(solid, way, given, unit)
+        try:
+            shape, doubt = shape_and_doubt(solid, Rounds(way, chosen, by_formula), given, unit, with_shapes) if with_shapes else (None, "")
+            some.append(Kept(number, solid, volume, shape, doubt))
+        except Refused as refusal:
+            why = why or str(refusal)
     return some, why
 
 
