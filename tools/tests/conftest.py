@@ -69,7 +69,7 @@ def pytest_terminal_summary(terminalreporter: TerminalReporter, config: pytest.C
         TIMES.write_text("".join(f"{name} {spent:.1f}\n" for name, spent in sorted(seconds.items())), encoding="utf-8")
 
 
-@pytest.hookimpl(trylast=True)
+@pytest.hookimpl(trylast=True)  # type: ignore[misc] # pytest 7 has no types for it
 def pytest_sessionfinish(session: pytest.Session) -> None:
     """With --whole, fails where a test was left out that isn't one of --long."""
     reporter = session.config.pluginmanager.get_plugin("terminalreporter")

@@ -64,12 +64,13 @@ def drawn(file: pathlib.Path, views: "sheets.Views", angle: str, texts: tuple[tu
               "SIDE": (x + beside(out, depth, width), y), "LEFT": (x + beside(-out, depth, width), y)}
     right = places["LEFT" if "LEFT" in views else "SIDE"][0]
     places["REAR"] = (right + sheets.GAP + depth if right > x else right - sheets.GAP - width, y)
+    from ezdxf.enums import TextEntityAlignment
     doc = sheets.new()
     sheets.draw(doc.modelspace(), views, places)
     for view, text in texts:
         left, low = places.get(view, (500.0, 10.0))
         wide = sheets.size_of(views[view])[0] if view in views else 0.0
-        doc.modelspace().add_text(text, dxfattribs={"height": 0.5}).set_placement((left + wide / 2, low - 1), align=sheets.TextEntityAlignment.MIDDLE_CENTER)
+        doc.modelspace().add_text(text, dxfattribs={"height": 0.5}).set_placement((left + wide / 2, low - 1), align=TextEntityAlignment.MIDDLE_CENTER)
     doc.saveas(file)
 
 

@@ -45,7 +45,7 @@ class HalfViews(unittest.TestCase):
         self.assertIn("left side", self.refused(level(10, 9.5, 10.5, 29.5, 30.5), [(10, 5, 10, 35)], (9.0, 9.5, 30.0, 30.5)))
 
     def test_what_is_none(self) -> None:
-        rows = {
+        rows: dict[str, list[Box]] = {
             "marks at one end": level(10, 7, 8), "one stroke at each end": level(10, 8, 32), "marks of a whole view": level(20, 7, 8, 32, 33),
             "notches": [(10, 12, 12, 12), (10, 13, 12, 13), (10, 27, 12, 27), (10, 28, 12, 28)],
             "long strokes": [(0, 7, 20, 7), (0, 8, 20, 8), (0, 32, 20, 32), (0, 33, 20, 33)], "nothing": [],

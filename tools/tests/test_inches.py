@@ -25,7 +25,7 @@ class Inches(test_rounds.InAFolder):
         doc.saveas(self.file)
         asked = self.asked()
         assert asked.rounds and asked.rounds.likeliest
-        self.assertEqual(len(asked.kept), 1, asked.rounds.told())
+        self.assertEqual(len(asked.kept), 1, asked.rounds.reasons())
         made = asked.kept[0].shape
         self.assertLess(abs(made.Volume * MILLIMETRES**3 - shape.Volume), shape.Area * 2 * MOVED * MILLIMETRES)
         self.assertEqual(len(made.Faces), len(shape.Faces))

@@ -58,7 +58,7 @@ class OneVerdict(unittest.TestCase):
     def headline_of_panel(self, name: str, words: tuple[str, ...]) -> str:
         """The word and the sentence that FreeCAD's panel is told."""
         with tempfile.TemporaryDirectory() as folder:
-            command = [sys.executable, PANEL, TOOLS, EXAMPLES / name, folder, *words]
+            command = [sys.executable, str(PANEL), str(TOOLS), str(EXAMPLES / name), folder, *words]
             # It ends with its input, which stays open here until all is told.
             with subprocess.Popen(command, stdin=subprocess.PIPE, stdout=subprocess.PIPE, stderr=subprocess.DEVNULL, text=True) as run:
                 assert run.stdout

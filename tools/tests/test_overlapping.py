@@ -22,7 +22,7 @@ TOP = [(0, 0, 40, 0), (40, 0, 40, 30), (40, 30, 0, 30), (0, 30, 0, 0), (36, 0, 3
 SIDE = [(0, 0, 30, 0), (30, 0, 30, 10), (30, 10, 0, 10), (0, 10, 0, 0), (0, 6, 30, 6)]
 HIDDEN = {"FRONT": [(10, 0, 10, 10), (20, 0, 20, 10)], "SIDE": [(10, 0, 10, 10), (20, 0, 20, 10)]}
 HOLE = (15, 15)
-APART = {"FRONT": (0, 0), "TOP": (0, 50), "SIDE": (80, 0)}
+APART: dict[str, Place] = {"FRONT": (0, 0), "TOP": (0, 50), "SIDE": (80, 0)}
 # All from one place, two of them alone, and in another order.
 OVERLAPPING: tuple[dict[str, Place], ...] = (
     {"FRONT": (0, 0), "TOP": (0, 0), "SIDE": (0, 0)}, {"FRONT": (0, 0), "TOP": (5, 5), "SIDE": (80, 0)},

@@ -96,7 +96,7 @@ def between(path: str | None, arguments: argparse.Namespace, why: Refused, ask: 
     if len(fitting) == 1:
         return fitting[0].angle
     if len(fitting) == 2 and not isinstance(why, TwoReadings):
-        return settled(path, arguments, *both, ask)
+        return settled(path, arguments, fitting[0], fitting[1], ask)
     raise why.with_words(f"\n  recon lists {'; '.join(f'in {it.angle} angle {it.outcome.words}' for it in both)}")
 
 
