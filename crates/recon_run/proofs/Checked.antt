@@ -126,12 +126,12 @@ one_right Six = one_fitting
 one_right Sections = one_fitting
 
 -- what is said of a right log says that it is one
-is_right : (layers : LayerSet) {t : Input} {p : ProblemParts} (has : HasProblem t p) (log text : List ℕ) → SaysRight layers has log text → IsSomeLog p log
+pub is_right : (layers : LayerSet) {t : Input} {p : ProblemParts} (has : HasProblem t p) (log text : List ℕ) → SaysRight layers has log text → IsSomeLog p log
 is_right Main has log text says = says.0
 is_right Six has log text says = says.0
 is_right Sections has log text says = says.0
 
-yes_or_refused : (p : ProblemParts) (log text other : List ℕ) → IsSomeLog p log → SaysRefused p log other → ⊥
+pub yes_or_refused : (p : ProblemParts) (log text other : List ℕ) → IsSomeLog p log → SaysRefused p log other → ⊥
 yes_or_refused p log text other (listed, is) (kind, line, refused, told) = never_said p log kind line refused listed is
 
 one_refused : (p : ProblemParts) (log text other : List ℕ) → SaysRefused p log text → SaysRefused p log other → text ≡ other

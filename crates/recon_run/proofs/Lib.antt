@@ -20,3 +20,4 @@ pub mod Checked
 pub mod AskedTexts
 pub mod AskedEnds
 pub mod ScriptsRead
+pub mod SolveCases

@@ -4,3 +4,4 @@ pub mod Readers
 pub mod Owed
 pub mod Endings
 pub mod Searched
+pub mod Solve

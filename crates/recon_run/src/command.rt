@@ -3,12 +3,13 @@
 ghost use Rattle.std.specs.Prelude.{◌≡◌, false, true, length, map, string_bytes, Err};
 ghost use Rattle.replies.specs.declared.status.Answer.TheVariants as answers;
 ghost use Rattle.replies.specs.declared.status.Failure.TheVariants.{ReadFault, WriteFault};
-ghost use Rattle.file_problem.specs.Inputs.{HasNoFault, IsFileFault};
+ghost use Rattle.file_problem.specs.Inputs.{IsFileFault};
 ghost use Rattle.recon_run.specs.Answers.{CanEnd};
-ghost use Rattle.recon_run.specs.Endings.{AnswersOrFails, Ends, EndsOrFails, OfAlone, OfInput, OfSearch, owed_to};
+ghost use Rattle.recon_run.specs.Endings.{AnswersOrFails, Ends, OfInput, OfSearch, owed_to};
 ghost use Rattle.recon_run.specs.Owed.{most_read, owed_for, reads_source};
 ghost use Rattle.replies.specs.Status.{Status, status_code, failure_code};
 ghost use Rattle.recon_run.specs.Searched.{AsksFor, ReadsIn};
+ghost use Rattle.recon_run.specs.Solve.{Solves};
 ghost use Rattle.solid_model.specs.declared.ended.EndKind.TheVariants.{Whole};
 ghost use Rattle.solid_model.specs.declared.fault.Fault.{Fault};
 ghost use Rattle.tv_base.specs.Faults.{Rose};
@@ -213,21 +214,20 @@ pub fn run<R: Threads + Wait + Sync, S: Source, K: Sink, G: Gate>(
     sink: &mut K,
     gate: &G,
 ) -> u8
+    ensures solve { Solves (map string_bytes words.now) (S.left source.old) (K.held sink.old)
+        (K.held sink.new) result }
+
     ensures ends { (status : Status) × (result ≡ status_code status)
         × Ends (owed_to (map string_bytes words.now)) (S.left source.old) (S.left source.new)
         (K.held sink.old) (K.held sink.new) (Rose (S.faults source.old) (S.faults source.new))
         (Rose (K.faults sink.old) (K.faults sink.new)) status }
 
-    ensures whole { OfSearch (owed_to (map string_bytes words.now)) (S.left source.old)
-        (λ s input. (c : CanEnd s.limits input Whole)
-        → AnswersOrFails (s.whole input (length c.solids)) result) }
-    ensures ended { OfSearch (owed_to (map string_bytes words.now)) (S.left source.old)
-        (λ s input. HasNoFault input → EndsOrFails s input result) }
     ensures fault { OfInput (owed_to (map string_bytes words.now)) (S.left source.old)
         (λ input. (fault : Fault) → IsFileFault input fault
         → AnswersOrFails answers.Faulty result) }
-    ensures alone { OfAlone (owed_to (map string_bytes words.now))
-        (λ answer. AnswersOrFails answer result) }
+    ensures whole { OfSearch (owed_to (map string_bytes words.now)) (S.left source.old)
+        (λ s input. (c : CanEnd s.limits input Whole)
+        → AnswersOrFails (s.whole input (length c.solids)) result) }
 
     ensures unread { reads_source (owed_to (map string_bytes words.now)) ≡ false
         → source.new ≡ source.old }
@@ -235,8 +235,6 @@ pub fn run<R: Threads + Wait + Sync, S: Source, K: Sink, G: Gate>(
         (most_read (owed_to (map string_bytes words.now))) }
     ensures read_fault { result ≡ failure_code ReadFault
         → Rose (S.faults source.old) (S.faults source.new) × (sink.new ≡ sink.old) }
-    ensures write_fault { result ≡ failure_code WriteFault
-        → Rose (K.faults sink.old) (K.faults sink.new) }
 {
     code(answer(rt, alloc, words, source, sink, gate))
 }

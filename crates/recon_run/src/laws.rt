@@ -1,5 +1,7 @@
 //! Laws of what is answered.
 
+mod due;
+
 ghost use Rattle.std.specs.Prelude.{◌≡◌, ◌⊎◌, ◌++◌, Bool, false, ℕ, List, Option, Some};
 ghost use Rattle.replies.specs.declared.status.Answer.{Answer};
 ghost use Rattle.replies.specs.declared.status.Answer.TheVariants as answers;
@@ -10,6 +12,8 @@ ghost use Rattle.solid_model.specs.declared.fault.Fault.{Fault};
 ghost use Rattle.solid_model.specs.Search.{SearchLimits};
 ghost use Rattle.dxf_entities.specs.declared.layer_set.LayerSet.TheVariants.{Main};
 ghost use Rattle.words.specs.declared.job.Job.TheVariants as job;
+
+pub use due::{due_asked, due_checked, due_numbers, solve_by_cases};
 
 /// What `make` owes has no fault: whatever is made from a number can be searched.
 pub fn made_files_have_no_fault()

@@ -23,8 +23,8 @@ mod trial;
 pub use command::run;
 pub use file_problem::{problem_and_rest, problem_of, problem_of_six};
 pub use laws::{
-    begun_texts_go_on, little_is_left_open, made_files_have_no_fault, one_answer, one_first_fault,
-    some_answer,
+    begun_texts_go_on, due_asked, due_checked, due_numbers, little_is_left_open,
+    made_files_have_no_fault, one_answer, one_first_fault, solve_by_cases, some_answer,
 };
 pub use replies::{Answer, Failure, Status, status_numbers};
 pub use words::{Job, WordFault, job_of};
