@@ -150,7 +150,7 @@ class Letters(unittest.TestCase):
         with tempfile.TemporaryDirectory() as room:
             file = pathlib.Path(room, "sheet.dxf")
             doc.saveas(file, fmt="bin")
-            self.assertIn("Рамка", {edge.source.layer for edge in reader.read_sheet(str(file), ()).edges})
+            self.assertIn("Рамка", {thing.layer for thing in reader.read_sheet(str(file), ()).left})
             file.write_bytes(file.read_bytes().replace("Рамка".encode("cp1251"), b"Ramka"[:4] + b"\x98"))
             self.assertIn("Ramk�", {edge.source.layer for edge in reader.read_sheet(str(file), ()).edges})
 

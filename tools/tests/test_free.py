@@ -149,7 +149,7 @@ class Causes(test_rounds.InAFolder):
             parts.sheet_of(box(0, 0, 0, 60, 40, 10).fuse(upright).cut(cylinder(2, (20, 15), 0, 10, 4)), self.file, without_a_step)
             ended = draft("solve", self.file)
             self.assertIn("Not decided: no solid was found", ended.out)
-            self.assertIn("The cause isn't known, since the other views confirm each curve: ", ended.out)
+            self.assertIn("Each curve is confirmed by the other views.", ended.out)
 
     def test_a_suspect_is_written_and_read(self) -> None:
         given = given_in(comments(Given([], {}, {}, [], [], [], suspects=("a", "b c"))).splitlines() + ["999", "draft hole TOP 40 25 6 0 8"])

@@ -42,8 +42,9 @@ class InAFolder(unittest.TestCase):
         self.file = pathlib.Path(folder.name) / "part.dxf"
 
     def asked(self, *words: object) -> pipeline.Asked:
+        """What is asked of the sheet, in third angle: in the other one most parts are others, and which is meant would be asked."""
         self.said: list[str] = []
-        return pipeline.ask(str(self.file), arguments("solve", self.file, *words), in_words(self.said))
+        return pipeline.ask(str(self.file), arguments("solve", self.file, "--angle", "third", *words), in_words(self.said))
 
     def exact(self, shape: Any, asked: pipeline.Asked | None = None) -> None:
         """Just this part is kept."""

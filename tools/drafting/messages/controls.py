@@ -12,7 +12,7 @@ CONTROLS = {
         "hidden": "Hidden lines", "visible": "Visible lines", "leave-out": "Leave out", "scale": "Scale", "angle": "Angle", "solids": "Most solids",
         "nodes": "Most nodes", "tolerance": "Noise", "decimals": "Decimals", "sheet-decimals": "Decimals of the sheet",
         "all-visible": "no line is hidden", "as-drawn": "lengths are as drawn", "as-is": AS_IS, "sections": "with its sections",
-        "sheet-page": "Page", "part": "Part", "visible-only": "The same sheet without hidden lines",
+        "sheet-page": "Page", "part": "Part", "unit": "Unit", "visible-only": "The same sheet without hidden lines",
     },
     "panel": {"part": "Views of .."},
 }

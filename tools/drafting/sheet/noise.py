@@ -22,6 +22,8 @@ TRIED = (2e-4, 5e-4, 1e-3, 2e-3, 5e-3, 0.01, 0.02, 0.05)
 SLOPE = 1 / 200
 # How many times the tolerance clusters are apart; how many times the greatest residue the unit is; and how likely chance may be.
 APART, WIDER, CHANCE = 3, 6, 1e-6
+# How likely chance may be where no line is off, and residues may be those of a few lengths that have no end, as on a bolt circle.
+CHANCE_OF_FEW = 1e-3
 # What a double and a file's digits leave; which part of the clusters is off where no line is, and how many at least.
 EXACT, OFTEN, FEWEST = 1e-5, 0.25, 4
 # The units of coordinates, the greatest first: decimals, and parts as of inches and feet.
@@ -135,9 +137,15 @@ def grid_of(spans: Mapping[Axis, Sequence[Span]], tolerance: float) -> Grid | No
         origins = shared({axis: origin_of(its, unit) for axis, its in clusters.items()}, unit, tolerance)
         residues = [abs(math.remainder(it - origins[axis], unit)) for axis, its in clusters.items() for it in its]
         off = max(residues, default=0.0)
-        if off <= most and WIDER * off <= unit and (2 * off / unit)**(count - len(clusters)) < CHANCE:
+        is_no_chance = (2 * off / unit)**(count - len(clusters)) < CHANCE if spread > EXACT else (2 * off / unit)**kinds_of(residues) < CHANCE_OF_FEW
+        if off <= most and WIDER * off <= unit and (is_no_chance or off <= EXACT):
             return Grid(unit, origins, off, sum(it > EXACT for it in residues) / max(count, 1), count, spread)
     return None
+
+
+def kinds_of(residues: Iterable[float]) -> int:
+    """How many different residues there are. One length without an end is found again in each sum of it and whole lengths."""
+    return len({round(it / (2 * EXACT)) for it in residues if it > EXACT})
 
 
 def origin_of(values: Sequence[float], unit: float) -> float:

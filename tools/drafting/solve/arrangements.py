@@ -234,16 +234,31 @@ def are_same_shapes(some: Sequence[Kept], others: Sequence[Kept]) -> bool:
 
 
 def is_turned(one: Any, other: Any) -> bool:
-    """Whether a shape is another one, turned."""
-    if abs(one.Volume - other.Volume) > NOISE * one.Volume:
+    """Whether a shape is another one, turned and moved."""
+    if abs(one.Volume - other.Volume) > NOISE * other.Volume:
         return False
-    vector = type(one.BoundBox.Center)
-    matrix = type(one.Placement.toMatrix())
-    for rotation in ROTATIONS:
-        rows = [[sign * (axis == at) for at in range(3)] for axis, sign in rotation]
-        shape = one.transformGeometry(matrix(*rows[0], 0, *rows[1], 0, *rows[2], 0, 0, 0, 0, 1))
-        shape.translate(vector(*(other.BoundBox.Center - shape.BoundBox.Center)))
-        if abs(shape.BoundBox.DiagonalLength - other.BoundBox.DiagonalLength) <= 1e-4 * other.BoundBox.DiagonalLength and \
-                abs(shape.common(other).Volume - other.Volume) <= NOISE * other.Volume:
-            return True
-    return False
+    return any(are_one(turned_shape(one, rotation), other) for rotation in ROTATIONS)
+
+
+def turned_shape(shape: Any, rotation: Rotation) -> Any:
+    """A shape, turned round the origin. Its surfaces stay what they are: planes, cylinders, cones."""
+    rows = [[float(sign * (axis == at)) for at in range(3)] for axis, sign in rotation]
+    matrix = type(shape.Placement.toMatrix())
+    return shape.transformed(matrix(*rows[0], 0, *rows[1], 0, *rows[2], 0, 0, 0, 0, 1), copy=True)
+
+
+def are_one(one: Any, other: Any) -> bool:
+    """Whether two shapes are the same, wherever they stand. Both have the same volume."""
+    sizes = zip(*((box.XLength, box.YLength, box.ZLength) for box in (one.BoundBox, other.BoundBox)))
+    if any(abs(a - b) > 1e-3 * other.BoundBox.DiagonalLength for a, b in sizes):
+        return False
+    moved = one.translated(centre_of(other) - centre_of(one))
+    return bool(moved.cut(other).Volume + other.cut(moved).Volume <= NOISE * other.Volume)
+
+
+def centre_of(shape: Any) -> Any:
+    """The centre of a shape's mass, as a vector."""
+    centre = shape.Solids[0].CenterOfMass * 0
+    for solid in shape.Solids:
+        centre += solid.CenterOfMass * (solid.Volume / shape.Volume)
+    return centre
