@@ -7,8 +7,10 @@ from collections.abc import Iterator, Sequence
 from typing import Any
 from unittest import mock
 
+from drafting.core.messages import Refused
 from drafting.dxf.drawing import Place
 from drafting.dxf.reader import Edge
+from drafting.rounds import verify
 from drafting.rounds.features import Given
 
 from . import test_rounds
@@ -165,6 +167,14 @@ class Styles(unittest.TestCase):
                     self.assertTrue(told.startswith(view))
 
 
+class Attempts(unittest.TestCase):
+    def test_the_reason_of_the_nearest_attempt_is_told(self) -> None:
+        far, near, failed = verify.Differs("far", 5), verify.Differs("near", 2), Refused("no valid solid")
+        for refusals, told in (([], ""), ([failed], "no valid solid"), ([failed, far], "far"), ([far, near, failed], "near"),
+                               ([near, verify.Differs("as near", 2)], "near")):
+            self.assertEqual(verify.nearest(refusals), told)
+
+
 class Sheets(test_rounds.InAFolder):
     def dashed(self, radius: float) -> Any:
         """Leaves the visible circle of one hole out of TOP."""
@@ -186,3 +196,22 @@ class Sheets(test_rounds.InAFolder):
         parts.sheet_of(bush(square=True), self.file)
         for one in self.asked().kept:
             self.assertTrue(parts.are_same(one.shape, bush(square=True)))
+
+
+def lever(way: float) -> Any:
+    """Two eyes along x, each with a hole, and a bar between them that ends on both, 2 lower; on its side, turned one way or the other."""
+    shape = cylinder(2, (14, 14), 0, 12, 12).fuse(cylinder(2, (64, 14), 0, 12, 14)).fuse(box(14, 5, 0, 64, 23, 10)).removeSplitter()
+    shape = shape.cut(cylinder(2, (14, 14), 0, 12, 4)).cut(cylinder(2, (64, 14), 0, 12, 4)).removeSplitter()
+    shape.rotate(FreeCAD.Vector(0, 0, 0), FreeCAD.Vector(0, 1, 0), 90)
+    shape.rotate(FreeCAD.Vector(0, 0, 0), FreeCAD.Vector(1, 0, 0), way)
+    around = shape.BoundBox
+    shape.translate(FreeCAD.Vector(-round(around.XMin), -round(around.YMin), -round(around.ZMin)))
+    return shape
+
+
+class Levers(test_rounds.InAFolder):
+    def test_a_lever_of_which_hidden_line_removal_draws_a_visible_edge_dashed(self) -> None:
+        for way in (90, -90):
+            with self.subTest(way=way):
+                parts.sheet_of(lever(way), self.file)
+                self.exact(lever(way))

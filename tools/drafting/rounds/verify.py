@@ -18,7 +18,17 @@ from .restore import Drawn, volume_of, ways_of
 MOST = 200
 # How many solids that differ from the sheet are told one by one.
 MOST_TOLD = 3
+# How many differences from the sheet are counted of one attempt to restore a solid.
+COUNTED = 8
 LACKING = "not compared with the sheet, since FreeCAD isn't there: apt-get install --no-install-recommends freecad-python3"
+
+
+class Differs(Refused):
+    """A restored solid whose views aren't the sheet's: the first difference, and how many there are, COUNTED at most."""
+
+    def __init__(self, text: str, count: int) -> None:
+        super().__init__(text)
+        self.count = count
 
 
 class Kept(NamedTuple):
@@ -118,6 +128,7 @@ def rounded_back(
     some: list[Kept] = []
     why = ""
     reasons: list[Reason] = []
+    refusals: list[Refused] = []
     seen: list[list[Drawn]] = []
     for every, by_formula in ways_of(solid, given, unit):
         if some and not by_formula:
@@ -128,19 +139,24 @@ def rounded_back(
             seen.append(way)
             more, cause = in_one_way(number, solid, (way, by_formula), given, unit, with_shapes)
             some += more
-            why = why or cause
-    return some, why, tuple(dict.fromkeys(reasons))
+            if isinstance(cause, str):
+                why = why or cause
+            else:
+                refusals += cause
+    return some, nearest(refusals) or why, tuple(dict.fromkeys(reasons))
 
 
 def in_one_way(
     number: int, solid: Solid, its: tuple[list[Drawn], bool], given: Given, unit: int, with_shapes: tuple[Any, Any] | None
-) -> tuple[list[Kept], str]:
-    """A solid rounded back in one way, for which the volume's formula holds or doesn't; or why it isn't kept."""
+) -> tuple[list[Kept], str | list[Refused]]:
+    """A solid rounded back in one way, for which the volume's formula holds or doesn't; or why it can't be tried, or why the attempts failed."""
     (way, by_formula), some = its, list[Kept]()
     if with_shapes is None and not (by_formula and not given.is_crossed):
         return [], f"{'crossed by holes' if given.is_crossed else 'cut by walls'}, which needs FreeCAD"
     every = choices(solid, way, given, unit)
-    why = "" if every else "its holes and bosses don't have the places of all cones"
+    if not every:
+        return [], "its holes and bosses don't have the places of all cones"
+    refusals: list[Refused] = []
     for chosen in every:
         volume = None
         if by_formula and not given.is_crossed:
@@ -150,8 +166,14 @@ def in_one_way(
             shape, doubt = shape_and_doubt(solid, Rounds(way, chosen, by_formula), given, unit, with_shapes) if with_shapes else (None, "")
             some.append(Kept(number, solid, volume, shape, doubt))
         except Refused as refusal:
-            why = why or str(refusal)
-    return some, why
+            refusals.append(refusal)
+    return some, refusals
+
+
+def nearest(refusals: Sequence[Refused]) -> str:
+    """Why the attempt failed that came nearest to the sheet: the first one with the fewest differences, else the first of all; nothing where
+    none failed."""
+    return str(min(refusals, key=lambda it: it.count if isinstance(it, Differs) else COUNTED + 1)) if refusals else ""
 
 
 def shape_and_doubt(solid: Solid, its: Rounds, given: Given, unit: int, with_shapes: tuple[Any, Any]) -> tuple[Any, str]:
@@ -162,13 +184,13 @@ def shape_and_doubt(solid: Solid, its: Rounds, given: Given, unit: int, with_sha
     try:
         shape = bodies.rounded_shape(solid, its.drawn, its.cones, given, unit, its.by_formula)
         large = compared.enlarged(shape, given)
-        differing = list(itertools.islice(compared.differences(*large), 1))
+        differing = list(itertools.islice(compared.differences(*large), COUNTED))
         other, lacking = compared.smooth_doubts(*large) if given.smooth and not differing else (0, 0)
     except Refused:
         raise
     except Exception as failure:  # whatever OpenCASCADE stumbles on
         raise Refused(f"FreeCAD can't make or draw it: {' '.join(str(failure).split())[:80] or type(failure).__name__}") from None
     if differing:
-        raise Refused(differing[0])
+        raise Differs(differing[0], len(differing))
     words = [f"{many(other, 'line')} left out as tangent edges it has otherwise"] if other else []
     return shape, "; ".join([*words, *([f"{many(lacking, 'tangent edge')} of it the sheet doesn't draw"] if lacking else [])])
