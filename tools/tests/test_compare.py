@@ -56,7 +56,8 @@ class ViewsOfCirclesAlone(unittest.TestCase):
         self.assertEqual(list(compare.differences(shape, given)), [])
         seen = next(it for it in given.arcs["TOP"] if it.radius == 3 and not it.hidden)
         wrong = given._replace(arcs={"TOP": [it for it in given.arcs["TOP"] if it != seen]})
-        self.assertRegex("\n".join(compare.differences(shape, wrong)), r"^TOP, from 0 to 360 degrees of the circle at .* of radius 3: the sheet has dashed")
+        told = "\n".join(compare.differences(shape, wrong))
+        self.assertRegex(told, r"^TOP, from 0 to 360 degrees of the circle at .* of radius 3: the sheet has dashed")
 
     def test_a_bore_that_is_square_over_half_its_length(self) -> None:
         given = sheet_of(bush(square=False))
@@ -170,8 +171,9 @@ class Styles(unittest.TestCase):
 class Attempts(unittest.TestCase):
     def test_the_reason_of_the_nearest_attempt_is_told(self) -> None:
         far, near, failed = verify.Differs("far", 5), verify.Differs("near", 2), Refused("no valid solid")
-        for refusals, told in (([], ""), ([failed], "no valid solid"), ([failed, far], "far"), ([far, near, failed], "near"),
-                               ([near, verify.Differs("as near", 2)], "near")):
+        cases: list[tuple[list[Refused], str]] = [([], ""), ([failed], "no valid solid"), ([failed, far], "far"), ([far, near, failed], "near"),
+                                                  ([near, verify.Differs("as near", 2)], "near")]
+        for refusals, told in cases:
             self.assertEqual(verify.nearest(refusals), told)
 
 
