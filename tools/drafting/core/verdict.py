@@ -45,6 +45,7 @@ class Doubt(enum.Enum):
     SECTIONS_NOT_READ = "sections_not_read"
     HIDDEN_NOT_DRAWN = "hidden_not_drawn"
     ANGLE_NOT_CHECKED = "angle_not_checked"
+    STROKES_JOINED = "strokes_joined"
 
 
 # Doubts that can only take solids away: without a solid there is none with them either.

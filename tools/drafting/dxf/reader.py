@@ -142,6 +142,10 @@ class Sheet:
         # Centre lines, and lines on layers that are named for cutting-plane lines.
         self.chains: list[Edge] = []
         self.kept: list[Kept] = []
+        # Of lines drawn as strokes: strokes that may be anything, hidden lines whose ends are a guess, and lines no longer than a stroke.
+        self.unclear: list[Unread] = []
+        self.guessed: list[Edge] = []
+        self.short: list[Edge] = []
         self.changed: Things = Counter()
         self.left: Things = Counter()
         # The same sheet without hidden lines, where that is given, and the edges as they were read before it told which are hidden.

@@ -65,6 +65,7 @@ def advice_on(reason: Reason) -> str:
         return f"{option('all-readings')} tries all readings, however long it takes."
     return {Doubt.SECTIONS_NOT_READ: f"{option('sections')} has sections read.",
             Doubt.NOT_COMPARED: f"FreeCAD compares them: {FREECAD}",
+            Doubt.STROKES_JOINED: f"{option('strokes', 'hidden')} says that these lines are read as they are meant.",
             Doubt.HIDDEN_NOT_DRAWN: "Have the views show hidden lines.",
             Doubt.FEATURE_UNSUPPORTED: f"{command('why SHEET.dxf')} looks for a line that is wrong."}.get(reason.doubt, "")
 

@@ -29,7 +29,7 @@ from ..messages.controls import command, option, without
 from ..sections import layers as section_views
 from ..sections.cutting_plane_marks import Mark, marks_of, without_marks, words_of as words_of_sheet
 from ..sections.recognize import labels_of, sections_of
-from . import noise, outlines, view_files, two_views, scale, titles
+from . import noise, outlines, scale, strokes, titles, two_views, view_files
 from .back_to_sheet import Paper
 from .exploded_dimensions import without_dimensions
 from .groups import Group
@@ -88,6 +88,7 @@ def add_options(parser: argparse.ArgumentParser) -> None:
     group.add_argument("--leave-out", action="append", default=[], metavar="WHICH", help="lines that are none; or group=NUMBER")
     group.add_argument("--visible-only", metavar="OTHER.dxf", help="the same sheet without hidden lines, as FreeCAD exports it")
     group.add_argument("--all-visible", action="store_true", help="no line is hidden, whatever its colour")
+    group.add_argument("--strokes", choices=strokes.WAYS, help="what short lines in a row are: strokes of hidden lines, or edges (else found)")
     group.add_argument("--angle", choices=["third", "first"], help="how the views are placed (else as TOP stands)")
     group.add_argument("--tolerance", type=float, default=TOLERANCE, help=f"what is noise, in the sheet's unit (else {TOLERANCE:g})")
     group.add_argument("--sheet-decimals", type=int, choices=range(7), metavar="D", help="how many decimals lengths have (else found)")
@@ -103,7 +104,7 @@ def add_options(parser: argparse.ArgumentParser) -> None:
 def words_of(arguments: argparse.Namespace) -> list[str]:
     """The options of sheets as they were given, for another command."""
     words = [f"--{name.replace('_', '-')}={text}" for name in ("hidden", "visible", "leave_out") for text in getattr(arguments, name)]
-    for name in ("visible_only", "angle", "sheet_decimals", "reading", "scale", "unit", "sheet_page", "part"):
+    for name in ("visible_only", "angle", "sheet_decimals", "reading", "scale", "unit", "sheet_page", "part", "strokes"):
         if getattr(arguments, name) is not None:
             words.append(f"--{name.replace('_', '-')}={getattr(arguments, name)}")
     words += [f"--tolerance={arguments.tolerance!r}"] if arguments.tolerance != TOLERANCE else []
@@ -164,6 +165,9 @@ def edges_of(path: str | None, arguments: argparse.Namespace, tell: Tell) -> tup
         sheets[0].edges = hidden_within(sheets[0].edges, sheets[0].seen.edges, arguments.tolerance)
         hidden = sum(edge.hidden for edge in sheets[0].edges)
         tell(noted.changed(f"{many(hidden, 'line')} taken as hidden, since {visible} lacks them", hidden))
+    for sheet in sheets if not visible else ():
+        for note in strokes.without_strokes(sheet, arguments.tolerance, arguments.strokes):
+            tell(note)
     marks = [mark for sheet in sheets for mark in without_annotations(sheet, arguments.tolerance, tell)]
     return view_files.together(sheets), marks
 
@@ -572,6 +576,7 @@ def draw_straight(path: str | None, sheet: Sheet, marks: Sequence[Mark], argumen
 def checked_views(path: str | None, sheet: Sheet, edges: Sequence[Edge], marks: Sequence[Mark], arguments: argparse.Namespace, tell: Tell) -> Placed:
     """The views of a sheet; refused where something in them can't be read."""
     placed = found_views(path, sheet, edges, marks, arguments, tell)
+    strokes.refuse_unclear([group.box for group in placed.views.values()], sheet.unclear, lambda source: where(source, path))
     refuse_half({view: group.box for view, group in placed.views.items()}, sheet.edges, sheet.chains, arguments.tolerance)
     left = refuse_unread(path, placed, sheet.unread, arguments.tolerance)
     left.update(refuse_covered(path, placed, sheet.covers, arguments.tolerance))
@@ -605,6 +610,7 @@ def drawn_views(
                   lambda source: where(source, path), is_turned(arguments))
     text = comments + written({**views, **layers}, measure.decimals, origin)
     return Drawn(text, measure.decimals, origin, paper, page=sheet.page, has_sections=bool(layers),
+                 reasons=strokes.reasons_of(sheet, [group.box for group in placed.views.values()]),
                  angle=placed.angle, angle_by=placed.angle_by)
 
 
