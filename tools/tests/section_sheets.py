@@ -41,6 +41,7 @@ class Form(NamedTuple):
     arrow: str = "solid"
     letter: str = "A"
     wrong: str = ""
+    marks: str = "0"
     # The section: its label, hatch, turns, scale, and where it stands; whether its outline alone is drawn, or hidden lines too.
     label: str = "SECTION_A-A"
     hatch: str = "one"
@@ -97,6 +98,13 @@ class Maker:
     # ---- the line of the cutting plane
 
     def cutting_line(self, form: Form, plane: float | None = None) -> None:
+        """The line of a cutting plane with all that belongs to it, on its layer."""
+        others = {id(it) for it in self.space}
+        self.cutting_plane(form, plane)
+        for entity in (it for it in self.space if form.marks != "0" and id(it) not in others):
+            entity.dxf.layer = form.marks
+
+    def cutting_plane(self, form: Form, plane: float | None) -> None:
         """A line through a view with an arrow and a letter at each end, drawn as ISO 128 or as ASME Y14.2 does; elsewhere where it is said."""
         frame, looks = self.frame(form.where), FRAMES[form.looks]
         is_upright = frame.right == looks.sight
@@ -143,7 +151,11 @@ class Maker:
         if kind == "leader":
             self.space.add_leader([tip, tail])
             return
-        self.space.add_line(tail, tip if kind == "open" else foot)
+        if kind.startswith(("PLINE", "SOLID")):
+            self.wide_arrow(kind, tail, foot, tip)
+            return
+        if kind not in ("block", "CUTTING_PLANE_ARROW"):
+            self.space.add_line(tail, tip if kind == "open" else foot)
         if kind == "solid":
             self.space.add_solid([left, right, tip, tip])
         elif kind == "open":
@@ -156,6 +168,29 @@ class Maker:
             self.space.add_blockref(ARROWS.block_name(ARROWS.closed_filled), tip, dxfattribs={"xscale": 1, "yscale": 1, "rotation": turned})
         elif kind == "polyline":
             self.space.add_lwpolyline([(*foot, 0.6, 0), (*tip, 0, 0)], format="xyse")
+        elif kind in ("block", "CUTTING_PLANE_ARROW"):
+            self.space.add_blockref(self.arrow_block(kind), tip, dxfattribs={"rotation": math.degrees(math.atan2(way[1], way[0]))})
+
+    def arrow_block(self, name: str) -> str:
+        """A block with a shaft and a filled triangle as a head, whose tip is its base point and points to the right."""
+        if name not in self.doc.blocks:
+            block = self.doc.blocks.new(name)
+            block.add_line((-2.5, 0), (-1, 0))
+            block.add_solid([(-1, 0.3), (-1, -0.3), (0, 0), (0, 0)])
+        return name
+
+    def wide_arrow(self, kind: str, tail: Place, foot: Place, tip: Place) -> None:
+        """An arrow as one polyline with widths, as AutoCAD's PLINE makes it; or its shaft and its head as filled shapes."""
+        if kind == "PLINE":
+            self.space.add_lwpolyline([(*tail, 0, 0), (*foot, 0.6, 0), (*tip, 0, 0)], format="xyse")
+        elif kind == "PLINE_from_the_tip":
+            self.space.add_lwpolyline([(*tip, 0, 0.6), (*foot, 0, 0), (*tail, 0, 0)], format="xyse")
+        elif kind == "PLINE_R12":
+            self.space.add_polyline2d([(*tail, 0, 0), (*foot, 0.6, 0), (*tip, 0, 0)], format="xyse")
+        else:
+            x, y = (0.05, 0) if abs(tail[0] - tip[0]) < abs(tail[1] - tip[1]) else (0, 0.05)
+            self.space.add_solid([(tail[0] - x, tail[1] - y), (tail[0] + x, tail[1] + y), (foot[0] - x, foot[1] - y), (foot[0] + x, foot[1] + y)])
+            self.space.add_solid([(foot[0] - 6 * x, foot[1] - 6 * y), (foot[0] + 6 * x, foot[1] + 6 * y), tip, tip])
 
     def text(self, words: str, place: Place) -> None:
         self.space.add_text(words, height=HIGH).set_placement(place, align=TextEntityAlignment.MIDDLE_CENTER)
@@ -249,9 +284,12 @@ class Hatcher:
             hatch = self.space.add_hatch(color=8)
             for loop in loops(self.area):
                 hatch.paths.add_polyline_path([self.place(it) for it in loop])
-        elif kind in ("lines", "layer"):
+        elif kind in ("lines", "layer", "crossed"):
             for start, end in slanted(self.area):
                 self.space.add_line(self.place(start), self.place(end), dxfattribs={"layer": "HATCH" if kind == "layer" else "0"})
+            wide = max(i for i, _ in self.area) + 1
+            for (a, b), (c, d) in slanted({(wide - 1 - i, j) for i, j in self.area}) if kind == "crossed" else ():
+                self.space.add_line(self.place((wide - a, b)), self.place((wide - c, d)))
         elif kind == "half":
             middle = (min(i for i, _ in self.area) + max(i for i, _ in self.area) + 1) // 2
             self.hatch(list(loops({(i, j) for i, j in self.area if i >= middle})))

@@ -69,6 +69,16 @@ arrow=leader | both
 arrow=open | both
 arrow=hatch | both
 arrow=polyline | both
+arrow=PLINE | both
+arrow=PLINE_from_the_tip ends=iso | both
+arrow=PLINE_R12 | both
+arrow=SOLIDS | both
+arrow=block | both
+arrow=CUTTING_PLANE_ARROW | both
+marks=Schnittlinie | both
+marks=Schnittlinie arrow=open | both
+marks=Schnittlinie arrow=PLINE | both
+hatch=crossed | both
 ends=iso | both
 ends=iso arrow=open | both
 ends=iso arrow=insert looks=LEFT plane=4 where=FRONT | both

@@ -6,6 +6,7 @@ import math
 from collections.abc import Sequence
 from typing import Any, NamedTuple
 
+from . import places
 from .drawing import Place
 
 # How far from a line or from a circle a curve may lie: files with three decimals have this noise.
@@ -171,3 +172,22 @@ def without_chords(parts: list[Any]) -> tuple[list[Any], list[tuple[Bow, int]]]:
             left.append(parts[number])
         number += count or 1
     return left, bows
+
+
+def tapers_of(polyline: Any) -> dict[int, tuple[Place, Place]]:
+    """The straight stretches of a polyline that come to a point, as arrow heads are drawn by widths: from the wide end to the point, by their
+    numbers from 0 on."""
+    if polyline.dxftype() == "LWPOLYLINE":
+        rows = [((x, y), start, end, bulge) for x, y, start, end, bulge in polyline.get_points("xyseb")]
+    elif polyline.is_2d_polyline:
+        first, last = polyline.dxf.get("default_start_width", 0.0), polyline.dxf.get("default_end_width", 0.0)
+        rows = [(it.dxf.location, it.dxf.get("start_width", first), it.dxf.get("end_width", last), it.dxf.get("bulge", 0.0))
+                for it in polyline.vertices]
+    else:
+        return {}
+    found = {}
+    for number, ((one, start, end, bulge), (other, *_)) in enumerate(zip(rows, rows[1:])):
+        tail, tip = (places.of(polyline, it) for it in ((one, other) if end == 0 else (other, one)))
+        if start != end and 0 in (start, end) and not bulge and tail != tip:
+            found[number] = tail, tip
+    return found

@@ -119,6 +119,8 @@ class Around(NamedTuple):
     handle: str = ""
     off: bool = False
     depth: int = 0
+    # Whether a block round it is named for cutting-plane lines, so that nothing in it is an edge.
+    cutting: bool = False
 
 
 class Sheet:
@@ -331,7 +333,8 @@ class Reader:
             self.sheet.left[inserted(f"an arrow head {name}")] += 1
             return
         style, why = style_of(Look(name, "CONTINUOUS", 0), (), None)
-        if style is Style.APART:
+        cutting = around.cutting or role_of(name) is Role.CUTTING
+        if style is Style.APART and not cutting:
             self.sheet.left[inserted(f"block {name}, which is named for frames, texts or dimensions")] += 1
             its = (*insert.attribs, *(it for it in self.document.blocks[name] if it.dxftype() in ("TEXT", "MTEXT")))
             self.sheet.stamps += [words for it in its if (words := plain_text(it))]
@@ -342,7 +345,7 @@ class Reader:
             raise Refused(f"blocks stand in blocks more than {DEEPEST} deep, at {name}")
         layers = self.document.layers
         off = around.off and insert.dxf.layer == "0" or look.layer in layers and layers.get(look.layer).is_off()
-        within = Around(look, name, str(insert.dxf.handle or around.handle or ""), off, around.depth + 1)
+        within = Around(look, name, str(insert.dxf.handle or around.handle or ""), off, around.depth + 1, cutting)
         copies: Iterable[Any] = insert.multi_insert() if insert.mcount > 1 else [insert]
         if insert.mcount > MOST_ENTITIES:
             raise Refused(f"block {name} is inserted {insert.mcount:,} times by one INSERT")
@@ -375,6 +378,9 @@ class Reader:
         sheet = self.sheet
         style, why = style_of(look, self.choices, self.pattern(look.linetype))
         source = self.source(entity, kind, look, around)
+        is_cutting = around.cutting or role_of(look.layer) is Role.CUTTING
+        if around.cutting and style in (Style.VISIBLE, Style.HIDDEN):
+            style, why = Style.APART, f"block {around.block} is named for cutting-plane lines"
         is_drawn_hatch = kind == "LINE" and style is Style.APART and role_of(look.layer) is Role.HATCH
         if (kind in KEPT or is_drawn_hatch) and not any(choice.style is Style.APART and choice.meets(look) for choice in self.choices):
             sheet.kept.append(Kept(entity, source))
@@ -386,8 +392,10 @@ class Reader:
         elif kind not in ("LINE", *POLYLINES, *CURVES):
             sheet.left[on_layer(kind, look.layer)] += 1
         elif style in (Style.CENTRE, Style.APART):
-            if style is Style.CENTRE or role_of(look.layer) is Role.CUTTING:
+            if style is Style.CENTRE or is_cutting:
                 self.chain(entity, kind, look, source)
+            if is_cutting and style is Style.APART:
+                self.heads(entity, kind, source)
             what = "centre line, " if style is Style.CENTRE else ""
             sheet.left[on_layer(kind, look.layer, f", {what}{why}" if why else ", a centre line")] += 1
         elif style is Style.UNKNOWN:
@@ -396,11 +404,6 @@ class Reader:
             if kind in ("SOLID", "TRACE"):
                 self.arrow(entity, source)
             self.curve(entity, kind, style is Style.HIDDEN, look, source)
-        elif kind == "LWPOLYLINE" and is_tapered(entity):
-            ends = [places.of(entity, it) for it in entity.get_points("xy")]
-            points = (ends[0], ends[1]) if list(entity.get_points("se"))[0][1] == 0 else (ends[1], ends[0])
-            sheet.arrows.append(Arrow(ends, math.dist(*ends), source, points))
-            sheet.unread.append(Unread("is an arrow head", box_of(entity), source))
         else:
             if why:
                 sheet.changed[on_layer(kind, look.layer, f" taken as {style.value}, {why}")] += 1
@@ -413,6 +416,16 @@ class Reader:
             if part.dxftype() == "LINE":
                 start, end = part.dxf.start, part.dxf.end
                 self.sheet.chains.append(Edge(False, (start.x, start.y), (end.x, end.y), look.colour, source))
+
+    def heads(self, entity: Any, kind: str, source: Source) -> dict[int, Arrow]:
+        """Keeps the heads of arrows that an entity draws; those of a polyline by the numbers of their stretches."""
+        if kind in ("SOLID", "TRACE"):
+            self.arrow(entity, source)
+        found = {}
+        for number, (tail, tip) in (curves.tapers_of(entity) if kind in POLYLINES else {}).items():
+            found[number] = Arrow([tail, tip], math.dist(tail, tip), source, (tail, tip))
+        self.sheet.arrows += found.values()
+        return found
 
     def text(self, entity: Any) -> None:
         place = entity.dxf.get("insert")
@@ -444,7 +457,10 @@ class Reader:
         parts = [entity]
         if kind in POLYLINES:
             self.sheet.changed[on_layer(kind, look.layer, " taken apart")] += 1
-            parts, bows = curves.without_chords(list(entity.virtual_entities()))
+            heads = self.heads(entity, kind, source)
+            for (a, b), (c, d) in (it.points for it in heads.values() if it.points):
+                self.sheet.unread.append(Unread("is an arrow head", (min(a, c), min(b, d), max(a, c), max(b, d)), source))
+            parts, bows = curves.without_chords([it for number, it in enumerate(entity.virtual_entities()) if number not in heads])
             self.sheet.arcs += [Arc(hidden, *bow, source) for bow, _ in bows]
             if bows:
                 count = sum(chords for _, chords in bows)
@@ -464,12 +480,6 @@ class Reader:
             if abs(start.z - end.z) > 1e-9:
                 self.sheet.changed[on_layer(kind, look.layer, " seen from above, since its ends differ in height")] += 1
             self.sheet.edges.append(Edge(hidden, ends[:2], ends[2:], look.colour, source))
-
-
-def is_tapered(polyline: Any) -> bool:
-    """Whether a polyline is one stroke that comes to a point, as arrow heads are drawn."""
-    widths = list(polyline.get_points("se"))
-    return len(widths) == 2 and widths[0][0] != widths[0][1] and 0 in widths[0]
 
 
 def box_of(entity: Any) -> Box | None:

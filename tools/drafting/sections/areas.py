@@ -121,14 +121,23 @@ def last_below(values: Sequence[float], value: float) -> int:
 
 # ---- its outline
 
+SEVERAL = "its hatches are of several patterns, as those of several parts are"
+
 def area_of(hatches: Sequence[Hatch], lines: Sequence[Edge], runs: Sequence[Run], tolerance: float) -> list[Segment]:
     """The outline of what hatches or hatch lines cover, in a section of these runs; none where there is neither."""
     patterns = sorted({hatch.pattern for hatch in hatches})
-    ways = {round(math.degrees(math.atan2(b[1] - a[1], b[0] - a[0]))) % 180 for a, b, in ((line.start, line.end) for line in lines)}
-    if len(patterns) > 1 or len(ways) > 1 or hatches and lines:
-        raise Refused("its hatches are of several patterns, as those of several parts are")
+    ways: dict[int, list[Edge]] = {}
+    for line in lines:
+        (a, b), (c, d) = line.start, line.end
+        ways.setdefault(round(math.degrees(math.atan2(d - b, c - a))) % 180, []).append(line)
+    if len(patterns) > 1 or len(ways) > 2 or hatches and lines:
+        raise Refused(SEVERAL)
     mesh = mesh_of(runs, hatches, tolerance)
-    full = around(mesh, lines).union(*(covered(mesh, hatch, tolerance) for hatch in hatches))
+    # Lines of two ways that cover the same are one crossed hatch.
+    lined = [around(mesh, its) for its in ways.values()]
+    if any(it != lined[0] for it in lined):
+        raise Refused(SEVERAL)
+    full = set[tuple[int, int]]().union(*lined[:1], *(covered(mesh, hatch, tolerance) for hatch in hatches))
     outline = []
     for is_upright, i, j in mesh.sides():
         is_full, is_full_before = (i, j) in full, ((i - 1, j) if is_upright else (i, j - 1)) in full

@@ -18,6 +18,8 @@ LETTER = re.compile(r"[^\W\d_]\d?['′]?")
 # How far from its head a letter may stand, how long a stroke of it is at most, in heights of the letter; and how far from a head its
 # strokes may begin, as a part of its size.
 NEAR, LONG, TOUCHING = 3, 8, 0.2
+# How many times as long as wide a filled shaft is at least, and how many tolerances two places are apart at most that are meant to be one.
+THICK, NOISE = 4, 3
 # How far from a quarter of a circle an arc of a hatch may end, in degrees.
 WHOLE = 0.1
 
@@ -151,12 +153,13 @@ def points_of(corners: Sequence[Place]) -> tuple[Place, Place] | None:
 
 def heads_of(sheet: Sheet, edges: Sequence[Edge], others: Sequence[Arrow], tolerance: float) -> Iterator[Head]:
     """The arrow heads of a sheet, but those of exploded dimensions: filled triangles, inserted blocks, leaders and open ones."""
-    for arrow in sheet.arrows:
-        if not any(arrow is other for other in others):
-            xs, ys = zip(*arrow.tips)
-            grown = arrow.size if len(arrow.tips) == 1 else 0.0
-            around = min(xs) - grown, min(ys) - grown, max(xs) + grown, max(ys) + grown
-            yield Head(around, arrow.source, arrow.points or points_of(arrow.tips))
+    arrows = [arrow for arrow in sheet.arrows if not any(arrow is other for other in others)]
+    shafts = [shaft for arrow in arrows if (shaft := shaft_of(arrow))]
+    for arrow in arrows:
+        xs, ys = zip(*arrow.tips)
+        grown = arrow.size if len(arrow.tips) == 1 else 0.0
+        head = Head((min(xs) - grown, min(ys) - grown, max(xs) + grown, max(ys) + grown), arrow.source, arrow.points or points_of(arrow.tips))
+        yield with_shaft(head, shafts, tolerance)
     for kept in sheet.kept:
         if kept.source.kind == "LEADER" and len(kept.entity.vertices) > 1:
             (a, b, *_), (c, d, *_) = kept.entity.vertices[0], kept.entity.vertices[-1]
@@ -164,7 +167,31 @@ def heads_of(sheet: Sheet, edges: Sequence[Edge], others: Sequence[Arrow], toler
             yield Head((min(a, c), min(b, d), max(a, c), max(b, d)), kept.source, ((tail[0], tail[1]), (a, b)))
         elif kept.source.kind in HATCHES and is_head(kept.entity) and (box := box_of(kept.entity)):
             yield Head(box, kept.source, points_of(sides_of(kept.entity)[0]))
-    yield from open_heads(edges, tolerance)
+    yield from open_heads([*edges, *sheet.chains], tolerance)
+
+
+def shaft_of(arrow: Arrow) -> tuple[Place, Place] | None:
+    """The ends of a filled shape that is a stretch of a thick line, as shafts are drawn: of four corners, and much longer than wide."""
+    its = list(dict.fromkeys((round(x, 9), round(y, 9)) for x, y in arrow.tips))
+    if len(its) != 4:
+        return None
+    a, b = min(itertools.combinations(its, 2), key=lambda ends: math.dist(*ends))
+    c, d = (it for it in its if it not in (a, b))
+    start, end = ((a[0] + b[0]) / 2, (a[1] + b[1]) / 2), ((c[0] + d[0]) / 2, (c[1] + d[1]) / 2)
+    return (start, end) if max(math.dist(a, b), math.dist(c, d)) * THICK <= math.dist(start, end) else None
+
+
+def with_shaft(head: Head, shafts: Sequence[tuple[Place, Place]], tolerance: float) -> Head:
+    """An arrow head that points, with the filled shaft behind it, if there is one."""
+    if not head.points:
+        return head
+    tail, tip = head.points
+    reach = TOUCHING * head.size + NOISE * tolerance
+    for near, far in (way for shaft in shafts for way in (shaft, shaft[::-1])):
+        if math.dist(near, tail) <= reach and math.dist(far, tip) > math.dist(near, tip):
+            (a, b, c, d), (x, y) = head.box, far
+            return head._replace(box=(min(a, x), min(b, y), max(c, x), max(d, y)), points=(far, tip))
+    return head
 
 
 def open_heads(edges: Sequence[Edge], tolerance: float) -> Iterator[Head]:
@@ -189,12 +216,14 @@ def marks_of(sheet: Sheet, edges: Sequence[Edge], others: Sequence[Arrow], label
     heads = list(heads_of(sheet, edges, others, tolerance)) if letters else []
     marks: dict[str, list[Mark]] = defaultdict(list)
     for word in letters:
-        head = min(heads, key=lambda it: distance(it.box, word.place), default=None)
-        if head is not None and distance(head.box, word.place) <= NEAR * word.high + head.size:
+        near = [it for it in heads if distance(it.box, word.place) <= NEAR * word.high + it.size]
+        # A filled shape that doesn't point may be a shaft, or a thick end of the line.
+        head = min(near, key=lambda it: (it.points is None, distance(it.box, word.place)), default=None)
+        if head is not None:
             letter = word.text.rstrip("'′").upper()
             marks[letter].append(Mark(letter, word, head))
     found = [mark for letter, its in marks.items() if letter in labels or len(its) == 2 and its[0].head != its[1].head for mark in its]
-    return [mark._replace(strokes=tuple(strokes_of(mark, edges, tolerance))) for mark in found]
+    return [mark._replace(strokes=tuple(strokes_of(mark, edges, sheet.chains, tolerance))) for mark in found]
 
 
 def is_loose(edge: Edge, end: Place, edges: Sequence[Edge], tolerance: float) -> bool:
@@ -207,15 +236,18 @@ def span_of(edge: Edge) -> Box:
     return min(a, c), min(b, d), max(a, c), max(b, d)
 
 
-def strokes_of(mark: Mark, edges: Sequence[Edge], tolerance: float) -> list[Edge]:
-    """The lines of a mark: those that begin at its head, and what touches their ends, short and with a loose end."""
+def strokes_of(mark: Mark, edges: Sequence[Edge], chains: Sequence[Edge], tolerance: float) -> list[Edge]:
+    """The lines of a mark: those that begin at its head, and what touches their ends, short and with a loose end. A shaft may be one of the lines
+    that are no edges anyhow."""
     reach = TOUCHING * mark.head.size + 3 * tolerance
     around = LONG * mark.word.high
     near = [it for it in edges if not it.hidden and math.dist(it.start, it.end) <= around
             and min(distance(mark.head.box, it.start), distance(mark.head.box, it.end)) <= around]
     others = [it for it in edges if distance(mark.head.box, nearest_of(it, mark.head.box)) <= 3 * around]
     found = [it for it in near if min(distance(mark.head.box, end) for end in (it.start, it.end)) <= reach]
-    touched = [end for it in found for end in (it.start, it.end)] + [(mark.head.box[0], mark.head.box[1]), (mark.head.box[2], mark.head.box[3])]
+    shafts = [it for it in chains if math.dist(it.start, it.end) <= around
+              and min(distance(mark.head.box, end) for end in (it.start, it.end)) <= reach]
+    touched = [end for it in (*found, *shafts) for end in (it.start, it.end)] + [(mark.head.box[0], mark.head.box[1]), (mark.head.box[2], mark.head.box[3])]
     found += [it for it in near if not any(it is one for one in found)
               and any(distance(span_of(it), end) <= 3 * tolerance for end in touched)]
     rest = [it for it in others if not any(it is one for one in found)]

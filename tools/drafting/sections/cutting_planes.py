@@ -13,7 +13,7 @@ from ..dxf.drawing import Place
 from ..dxf.reader import Edge
 from ..projection.draw import FRAMES
 from ..sheet.groups import Group
-from .cutting_plane_marks import Mark
+from .cutting_plane_marks import Mark, distance
 
 # By how much an arrow may lie off a level or an upright line, as a part of its length; and how far from the arrow the stroke of
 # its line may be, in heights of its letter.
@@ -131,7 +131,8 @@ def bends(first: End, second: End, chains: Sequence[Edge], tolerance: float) -> 
         off = next((end for end in (edge.start, edge.end) if abs(end[across] - first.at) > 3 * tolerance), None)
         is_shaft = goes(edge, 1 - across, tolerance) and any(head.points and abs(head.points[1][1 - across] - edge.start[1 - across]) <= head.size / 2
                                                              for head in heads)
-        if off and not is_shaft:
+        is_head = any(all(distance(head.box, end) <= tolerance for end in (edge.start, edge.end)) for head in heads)
+        if off and not is_shaft and not is_head:
             yield off
 
 

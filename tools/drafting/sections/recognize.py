@@ -45,6 +45,8 @@ NEAR, NEARER, DOT = 12, 1.3, 0.05
 NO_SECTION = "; what makes no section is left out by"
 # How many slanted lines that end at no corner are a hatch.
 FEWEST_LINES = 3
+# How many lines of a crossed hatch are looked at.
+MOST_CROSSED = 100
 # With so many groups and no more each one is needed as a view.
 FEWEST_VIEWS = 3
 
@@ -185,8 +187,8 @@ def by_layer(groups: Sequence[Group]) -> Iterator[tuple[int, Why]]:
 
 
 def hatch_lines(runs: Sequence[Run], tolerance: float) -> list[Run]:
-    """Slanted lines of one way of which some don't begin and end where others do, as those of a hatch that was taken apart; not where as many
-    go the other way, as in countersinks."""
+    """Slanted lines of one way of which some don't begin and end where others do, as those of a hatch that was taken apart; where as many go the
+    other way these too if they cross, and none if they don't, as in countersinks."""
     def at(place: tuple[float, float]) -> tuple[int, int]:
         return round(place[0] / (3 * tolerance)), round(place[1] / (3 * tolerance))
 
@@ -196,10 +198,28 @@ def hatch_lines(runs: Sequence[Run], tolerance: float) -> list[Run]:
         if run.oblique:
             (a, b), (c, d) = run.edge.start, run.edge.end
             ways[round(math.degrees(math.atan2(d - b, c - a)) % 180) % 180].append(run)
+    def loose(its: Sequence[Run]) -> list[Run]:
+        return [run for run in its if any(ends[at(end)] == 1 for end in (run.edge.start, run.edge.end))]
+
     way = max(ways, key=lambda it: len(ways[it]), default=0)
-    most = ways[way] if len(ways[-way % 180]) < len(ways[way]) else []
-    loose = [run for run in most if any(ends[at(end)] == 1 for end in (run.edge.start, run.edge.end))]
-    return most if len(loose) >= FEWEST_LINES else []
+    one, other = ways[way], ways.get(-way % 180, [])
+    if min(len(loose(one)), len(loose(other))) >= FEWEST_LINES and are_crossed(one, other):
+        return [*one, *other]
+    most = one if len(other) < len(one) else []
+    return most if len(loose(most)) >= FEWEST_LINES else []
+
+
+def are_crossed(one: Sequence[Run], other: Sequence[Run]) -> bool:
+    """Whether lines of two ways cross one another, as those of a crossed hatch do and those of countersinks don't: some of the first ones."""
+    def side(place: tuple[float, float], run: Run) -> float:
+        (a, b), (c, d) = run.edge.start, run.edge.end
+        return (c - a) * (place[1] - b) - (d - b) * (place[0] - a)
+
+    def cross(a: Run, b: Run) -> bool:
+        return all(side(x.edge.start, y) * side(x.edge.end, y) < 0 for x, y in ((a, b), (b, a)))
+
+    crossed = (run for run in one[:MOST_CROSSED] if any(cross(run, it) for it in other))
+    return sum(1 for _ in itertools.islice(crossed, FEWEST_LINES)) == FEWEST_LINES
 
 
 def boxes_of(kept: Kept) -> Iterator[tuple[Box, bool, Kept]]:
