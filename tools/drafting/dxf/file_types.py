@@ -7,6 +7,7 @@ from typing import NamedTuple
 LOOKED_AT = 4096
 PICTURE = "it has no lines that could be read: draw it anew over the picture, in a CAD program, and save DXF"
 CAD = "export DXF by the program that drew it"
+NEXT = "; then `draft solve SHEET.dxf`"
 
 
 class Kind(NamedTuple):
@@ -26,9 +27,16 @@ def has(pattern: bytes) -> Callable[[bytes], bool]:
 
 
 KINDS = (
-    Kind("a PDF", f"{CAD}; one that was printed from lines can be opened in Inkscape and saved as DXF, drawn to paper's size", begins(b"%PDF-")),
+    Kind("a PDF", f"{CAD}; one that was printed from lines can be opened in Inkscape and saved as DXF, drawn to paper's size{NEXT}",
+         begins(b"%PDF-")),
     Kind("PostScript", f"{CAD}; Inkscape opens it and saves DXF, drawn to paper's size", begins(b"%!PS")),
-    Kind("a DWG drawing", "save it as DXF, by the program that wrote it or by the ODA File Converter", has(rb"\AAC(?:10\d\d|1\.\d|2\.\d\d)\0")),
+    Kind("a DWG drawing", "save it as DXF, by the program that wrote it, by the ODA File Converter, or by LibreDWG's `dwg2dxf -o "
+         "SHEET.dxf SHEET.dwg`" + NEXT, has(rb"\AAC(?:10\d\d|1\.\d|2\.\d\d)\0")),
+    Kind("a DWF publication", "it is published for viewing: ask for the DWG it was made of, or print it by Autodesk Design Review as a plot (HP-GL), "
+         "which `draft solve SHEET.plt` reads", begins(b"(DWF V")),
+    Kind("a file of SolidWorks, Inventor or another program that keeps solids in OLE documents (SLDPRT, SLDDRW, IPT)", "open it in that program and "
+         "save its drawing as DXF" + NEXT + "; or save its part as STEP, of which `draft views PART.step` draws the three views",
+         begins(b"\xd0\xcf\x11\xe0\xa1\xb1\x1a\xe1")),
     Kind("an SVG picture", f"{CAD}; Inkscape opens it and saves DXF",
          has(rb"\A\s*(?:<\?xml[^>]*>\s*)?(?:<!--.*?-->\s*|<!DOCTYPE svg[^>]*>\s*)*<svg\b")),
     Kind("a STEP file, a solid and no drawing", "`draft views` draws its three views", has(rb"\A\s*ISO-10303-21;")),

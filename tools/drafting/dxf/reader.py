@@ -226,11 +226,18 @@ def loaded(ezdxf: Any, text: str) -> Any:
         return ezdxf.read(io.StringIO(text, newline=None))
 
 
-def dxf_of(path: str) -> bytes:
-    """The bytes of a DXF file; refused where it is empty, too long, or something else."""
+def begin_of(path: str) -> bytes:
+    """The first bytes of a file, which tell what it is; refused where it is too long."""
     size = pathlib.Path(path).stat().st_size
     if size > MOST_BYTES:
         raise Refused(f"{pathlib.Path(path).name} has {size:,} bytes, more than {MOST_BYTES:,}")
+    with open(path, "rb") as file:
+        return file.read(file_types.LOOKED_AT)
+
+
+def dxf_of(path: str) -> bytes:
+    """The bytes of a DXF file; refused where it is empty, too long, or something else."""
+    begin_of(path)
     data = pathlib.Path(path).read_bytes()
     if not data.strip():
         raise Refused(f"{pathlib.Path(path).name} is empty")
@@ -494,6 +501,9 @@ def box_of(entity: Any) -> Box | None:
 
 def read_sheet(path: str, choices: Sequence[Choice]) -> Sheet:
     """Reads a file. What is changed and what is left out is counted in the sheet."""
+    from . import hpgl  # which stands on this module
+    if hpgl.is_plot(begin_of(path)):
+        return hpgl.sheet_of(path, choices)
     document, mended = opened(path)
     check_lines(path, document)
     data = pathlib.Path(path).read_bytes()

@@ -37,7 +37,10 @@ from .half_views import refuse_half
 from .overlapping import moved_apart
 from .placement import Hints, OtherAngle, Placed, by_names, extents_of, main_named, named_views, numbers_of, view_named
 from .turned import turned
-from .unreadable import refuse_covered, refuse_hidden_outline, refuse_missing, refuse_oblique, refuse_unread, way_of_style, with_layers
+from .unreadable import (
+    refuse_covered, refuse_hidden_outline, refuse_missing, refuse_oblique, refuse_strokes, refuse_unread,
+    way_of_style, with_layers,
+)
 
 NAME = "sheet"
 HELP = "write a sheet as people draw it as the drawing that recon reads"
@@ -576,7 +579,7 @@ def draw_straight(path: str | None, sheet: Sheet, marks: Sequence[Mark], argumen
 def checked_views(path: str | None, sheet: Sheet, edges: Sequence[Edge], marks: Sequence[Mark], arguments: argparse.Namespace, tell: Tell) -> Placed:
     """The views of a sheet; refused where something in them can't be read."""
     placed = found_views(path, sheet, edges, marks, arguments, tell)
-    strokes.refuse_unclear([group.box for group in placed.views.values()], sheet.unclear, lambda source: where(source, path))
+    refuse_strokes(path, placed, sheet.unclear)
     refuse_half({view: group.box for view, group in placed.views.items()}, sheet.edges, sheet.chains, arguments.tolerance)
     left = refuse_unread(path, placed, sheet.unread, arguments.tolerance)
     left.update(refuse_covered(path, placed, sheet.covers, arguments.tolerance))

@@ -10,19 +10,18 @@ import math
 import re
 import statistics
 from collections import defaultdict
-from collections.abc import Callable, Iterable, Iterator, Sequence
+from collections.abc import Iterable, Iterator, Sequence
 from typing import NamedTuple
 
 from ..core import notes as noted
-from ..core.messages import Refused, many
+from ..core.messages import many
 from ..core.notes import Note
 from ..core.verdict import Doubt, Reason
 from ..dxf.drawing import Place
-from ..dxf.reader import Arc, Box, Edge, Sheet, Source, Unread
+from ..dxf.reader import Arc, Box, Edge, Sheet, Unread
 from ..dxf.styles import PLAIN
 from ..geometry.components import meet
 from ..geometry.segments import Piece
-from ..messages.controls import option
 
 # What the user may say of strokes.
 WAYS = ("hidden", "visible")
@@ -453,18 +452,6 @@ def without_strokes(sheet: Sheet, tolerance: float, said: str | None) -> Iterato
                             found.single)
     if found.centre:
         yield noted.left_out(f"{many(len(found.centre), 'centre line')} drawn as strokes", len(found.centre))
-
-
-def refuse_unclear(boxes: Iterable[Box], unclear: Sequence[Unread], where: Callable[[Source], str]) -> None:
-    """Refuses strokes within a view of which it isn't clear what they are."""
-    views = list(boxes)
-    within = [it for it in unclear if it.box and any(meet(it.box, box, 0.0) for box in views)]
-    if within:
-        x, y = within[0].box[:2] if within[0].box else (0.0, 0.0)
-        more = f", and {len(within) - 1} more rows of them" if len(within) > 1 else ""
-        raise Refused(f"at {x:.6g}, {y:.6g} a {where(within[0].source)} {within[0].why}{more}: too few, or with unequal gaps, to tell what they "
-                      f"are. Say {option('strokes', 'hidden')} where they are a hidden line, {option('strokes', 'visible')} where they are edges, or "
-                      f"{option('leave-out', 'layer=NAME')} where they are neither", "strokes", list(WAYS))
 
 
 def reasons_of(sheet: Sheet, boxes: Iterable[Box]) -> tuple[Reason, ...]:

@@ -65,6 +65,17 @@ def refuse_covered(path: str | None, placed: Placed, covers: Sequence[Unread], t
     return left
 
 
+def refuse_strokes(path: str | None, placed: Placed, unclear: Sequence[Unread]) -> None:
+    """Refuses strokes within a view of which it isn't clear whether they are a hidden line."""
+    within = [(it, it.box) for it in unclear if it.box and any(meet(it.box, group.box, 0.0) for group in placed.views.values())]
+    if within:
+        it, (x, y, *_) = within[0]
+        more = f", and {many(len(within) - 1, 'more row')} of them" if len(within) > 1 else ""
+        raise Refused(f"at {x:.6g}, {y:.6g} a {where(it.source, path)} {it.why}{more}: too few, or with unequal gaps, to tell what they are. Say "
+                      f"{option('strokes', 'hidden')} where they are a hidden line, {option('strokes', 'visible')} where they are edges, or "
+                      f"{option('leave-out', 'layer=NAME')} where they are neither", "strokes", ["hidden", "visible"])
+
+
 def view_in_line(it: Unread, placed: Placed, tolerance: float) -> str:
     """Where names tell the views and a main one lacks, the view beside which something that can't be read may be of it: it reaches no farther
     to both sides, or upwards and downwards. So no view is lost that has nothing else; of views by their places `placement.py` sees to that."""
