@@ -40,7 +40,7 @@ class Shelves(unittest.TestCase):
             return 8 < z < 9 or (z < 2 or 4 < z < 6) and x < 10 and y < 10
 
         looking = Looking(given, 1, "TOP", [[0, 10, 20], [0, 10, 20], [0, 2, 4, 6, 8, 9]], is_full, [])
-        return [[(it.low, it.high) for it in choice[0]] for choice in choices_of([0], found, looking)[0]]
+        return [[(it.low, it.high) for it in choice[0]] for choice in choices_of([0], found, looking).its]
 
     def test_with_lines_along_the_corner_one_of_both_is_round(self) -> None:
         self.assertEqual(self.choices(arc=True, sides=True), [[(0, 2)], [(4, 6)]])

@@ -139,6 +139,7 @@ def rounded_back(
             seen.append(way)
             more, cause = in_one_way(number, solid, (way, by_formula), given, unit, with_shapes)
             some += more
+            reasons += its.if_kept if more else ()
             if isinstance(cause, str):
                 why = why or cause
             else:
