@@ -192,16 +192,6 @@ def shelves_of_mixed_radii(count: int) -> Iterable[Any]:
 
 
 @family
-def shelves_with_chamfers(count: int) -> Iterable[Any]:
-    return shelved((("chamfer", 6.0), SHARP), True, count)
-
-
-@family
-def shelves_with_rounds_and_chamfers(count: int) -> Iterable[Any]:
-    return shelved((("chamfer", 5.0), ROUND), True, count)
-
-
-@family
 def lugs(count: int) -> Iterable[Any]:
     """Lugs on a wall, whose ends are round or square."""
     for its in chosen((0, 6), count):

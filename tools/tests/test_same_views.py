@@ -16,10 +16,15 @@ from .support import needs_long, needs_module, needs_program
 if not test_rounds.missing:
     from . import rounded_parts as parts
     from . import same_views
-    from .rounded_parts import box, cylinder, filleted, obround
+    from .rounded_parts import box, chamfered, cylinder, filleted
 
 # By family the axis along which it is looked at, and of how many plates, or holes in a row, it is made; and how many solids each of its groups has.
-QUICK: tuple[tuple[str, int, int, list[int]], ...] = ()
+QUICK: tuple[tuple[str, int, int, list[int]], ...] = (
+    ("shelves_under_a_cover", 2, 2, [2]), ("shelves_under_a_cover", 1, 2, [2]), ("shelves_under_a_cover", 0, 2, [2]),
+    ("corners_of_pockets", 0, 2, [2]),
+    ("fillets_in_corners", 2, 2, [2]), ("slots_with_one_round_end", 1, 2, [2]), ("openings_under_a_round_hole", 2, 2, [3]),
+    ("pillars", 2, 2, [2]), ("sections_of_a_shaft", 0, 2, [2]),
+)
 # Families whose groups take three plates.
 OF_THREE = ("shelves_in_sight", "lugs", "lugs_with_bores", "shelves_of_mixed_radii", "openings_under_a_round_hole", "cheeks", "openings_upon_each_other")
 LEAST_GROUPS, SEEDS = 40, range(20)
@@ -38,7 +43,7 @@ class OfGroups(unittest.TestCase):
         """The verdict on the views of a group, and which of its solids aren't listed. All of a group have one sheet."""
         same_views.write(group.look, self.file)
         try:
-            asked = pipeline.ask(str(self.file), test_rounds.arguments("solve", self.file), tell_none)
+            asked = pipeline.ask(str(self.file), test_rounds.arguments("solve", self.file, "--angle", "third"), tell_none)
         except Refused as refusal:
             self.fail(f"refused: {refusal}")
         return verdict_of(asked), [it for it in group.members if not any(parts.are_same(one.shape, it) for one in asked.kept)]
@@ -63,6 +68,28 @@ class Quick(OfGroups):
             for number, group in enumerate(groups):
                 with self.subTest(family=name, axis=axis, number=number):
                     self.assertTrue(self.check(group))
+
+
+class OfOneSolid(test_rounds.InAFolder):
+    """Ordinary parts, of which each round can be in one choice of layers alone."""
+
+    def some(self) -> list[Any]:
+        block = box(0, 0, 0, 60, 40, 20)
+        return [
+            box(0, 0, 0, 50, 40, 10).cut(cylinder(2, (20, 20), 0, 10, 5)).cut(cylinder(2, (20, 20), 6, 10, 8)).cut(cylinder(2, (40, 10), 3, 10, 3)),
+            cylinder(0, (20, 20), 0, 20, 10).fuse(cylinder(0, (20, 20), 20, 50, 15)).fuse(cylinder(0, (20, 20), 50, 60, 8)).removeSplitter(),
+            filleted(block, 8, 2).cut(box(0, 10, 12, 60, 16, 20)),
+            chamfered(chamfered(block, 5, 2, lambda it: it.x < 1 and it.y < 1), 4, 1, lambda it: it.x > 59 and it.z > 19),
+            cylinder(0, (20, 20), 0, 60, 12).cut(box(30, 0, 26, 60, 40, 40)),
+        ]
+
+    def test_no_other_layers_are_told(self) -> None:
+        for number, shape in enumerate(self.some()):
+            parts.sheet_of(shape, self.file)
+            asked = self.asked()
+            with self.subTest(number=number):
+                self.exact(shape, asked)
+                self.assertEqual([it.sentence for it in verdict_of(asked).reasons if it.doubt is Doubt.LAYERS_NOT_TRIED], [])
 
 
 class Many(OfGroups):
