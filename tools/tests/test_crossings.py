@@ -88,7 +88,10 @@ class Cases(test_rounds.InAFolder):
         self.assertEqual(draft("sheet", self.file, "-o", drawing).status, 0)
         self.assertIn("999\ndraft hole FRONT 28 15 4 0 20 crossing ", drawing.read_text())
         self.assertIn("999\ndraft bend SIDE dashed ", drawing.read_text())
-        self.assertEqual(draft("solve", drawing).out, draft("solve", self.file).out)
+        # The drawing is of one reading of the sheet: the other one isn't tried of it.
+        between, whole = (draft("solve", file).out.splitlines() for file in (drawing, self.file))
+        self.assertEqual((between[0].partition(":")[0], whole[0].partition(":")[0]), ("Not decided", "Unique"))
+        self.assertEqual(*([it for it in its if it.startswith("solid ")] for its in (between, whole)))
         parts.sheet_of(shape, self.file, views=("FRONT", "TOP", "LEFT"))
         self.exact(turned_round(shape))
 

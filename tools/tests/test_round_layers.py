@@ -31,8 +31,8 @@ class Shelves(unittest.TestCase):
     it; in tenths. The solid may have other coordinates too."""
 
     def choices(self, arc: bool, sides: bool, is_cut_off: bool = False, level: tuple[int, ...] = (), across: float = 0) -> Choices:
-        quarter = Slant((6, 6), (10, 10)) if is_cut_off else Quarter((6, 6), 4, 1, 1)
-        one = Chamfer("TOP", quarter) if isinstance(quarter, Slant) else Squared("TOP", (6, 6), 4, (quarter,), False)
+        quarter: Quarter | Slant = Slant((6, 6), (10, 10)) if is_cut_off else Quarter((6, 6), 4, 1, 1)
+        one: Squared | Chamfer = Chamfer("TOP", quarter) if isinstance(quarter, Slant) else Squared("TOP", (6, 6), 4, (quarter,), False)
         lines = [Edge(True, (0, 10), (10 if sides else 6, 10), 7, NOWHERE), Edge(True, (10, 0), (10, 10 if sides else 6), 7, NOWHERE)]
         lines += [Edge(True, (10, 6), (6, 10), 7, NOWHERE)] if is_cut_off and arc else []
         beside = [Edge(True, (across, 2), (10, 2), 7, NOWHERE)]
