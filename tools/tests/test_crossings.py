@@ -215,7 +215,7 @@ class RandomParts(test_rounds.InAFolder):
             whole, visible = exported(shape, pathlib.Path(self.file.parent))
             with self.subTest(seed=seed):
                 self.said: list[str] = []
-                self.exact(shape, pipeline.ask(str(whole), arguments("solve", whole, "--visible-only", visible), in_words(self.said)))
+                self.exact(shape, pipeline.ask(str(whole), arguments("solve", whole, "--angle", "third", "--visible-only", visible), in_words(self.said)))
 
     def test_some(self) -> None:
         self.some(0, PARTS)
