@@ -77,9 +77,12 @@ class RandomSheets(unittest.TestCase):
         its = sheets.mirrored(views) if (angle == "third") == left else views
         places = sheets.places_of(its, angle, left)
         scale = chance.choice(SCALES)
-        doc = sheets.new(chance.choice(("R2000", "R2010", "R2018")), chance.choice((0, 1, 4)))
+        version, unit = chance.choice(("R2000", "R2010", "R2018")), chance.choice((0, 1, 4))
+        doc = sheets.new(version, unit)
         space = doc.modelspace()
         look, words = self.look(chance, doc, any(dashed for strokes in its.values() for dashed, _ in strokes))
+        # Parts that are drawn this small are asked about, unless their unit is said.
+        words += ["--unit", {1: "in", 4: "mm"}[unit]] if unit else []
         if chance.random() < 0.5:
             its = in_pieces(chance, its)
         if chance.random() < 0.3:

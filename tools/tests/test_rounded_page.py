@@ -102,7 +102,7 @@ class Round(Shown):
         # Its likeliest reading has no solid; the second one has.
         squared.write_text(draft("sheet", self.file, "--reading", 2).out)
         ended = draft("solve", squared, "--answer", answer)
-        self.assertEqual(ended.status, 0, ended.said)
+        self.assertEqual(ended.status, 14, ended.said)
         page = self.folder / "given.html"
         page.write_text(draft("page", squared, answer).out)
         self.browser.visit(page.as_uri())
