@@ -335,7 +335,7 @@ class Metres(InAFolder):
             for circle in doc.modelspace().query("CIRCLE") if wrong else ():
                 circle.dxf.radius += 0.0005 if circle.dxf.radius < 0.003 else 0
             doc.saveas(self.file)
-            asked = self.asked("--tolerance", "1e-7")
+            asked = self.asked("--tolerance", "1e-7", "--unit", "m")
             with self.subTest(wrong=wrong):
                 if wrong:
                     self.assertEqual(asked.kept, [])
