@@ -142,7 +142,8 @@ class Maker:
         if number and form.wrong in ("turned_end", "oblique"):
             ends = ends[0], place(on + 2.5, tail if form.wrong == "turned_end" else tip)
         self.arrow(form.arrow, *ends)
-        self.text(form.letter + "'" * (number * (form.wrong == "primed")), place(on + 1.0 * out, (tip + tail) / 2))
+        if form.letter != "none":
+            self.text(form.letter + "'" * (number * (form.wrong == "primed")), place(on + 1.0 * out, (tip + tail) / 2))
 
     def arrow(self, kind: str, tail: Place, tip: Place) -> None:
         way = (tip[0] - tail[0]) / math.dist(tip, tail), (tip[1] - tail[1]) / math.dist(tip, tail)

@@ -11,7 +11,7 @@ from collections.abc import Iterable
 from drafting.cli import commands
 from drafting.core.messages import Refused
 from drafting.core.notes import tell_none
-from drafting.core.verdict import Kind
+from drafting.core.verdict import Doubt, Kind
 from drafting.dxf.drawing import lines_within
 from drafting.explain import ruled_out
 from drafting.projection.draw import FRAMES, Cell
@@ -188,6 +188,23 @@ class SectionSheets(unittest.TestCase):
                         self.drawn()
                 else:
                     self.one(form, tuple(KINDS) if comes == "both" else (comes,))
+
+    def test_a_line_without_letters_leaves_its_section_out(self) -> None:
+        for arrow in ("solid", "PLINE", "SOLIDS", "block", "open"):
+            for ends in ("asme", "iso"):
+                with self.subTest(arrow=arrow, ends=ends):
+                    section_sheets.made(form_of(f"letter=none label=none arrow={arrow} ends={ends}"), self.file)
+                    asked, said = self.asked("--angle", "third")
+                    self.assertEqual(shown_in(asked.lines), {})
+                    self.assertEqual(sum(reason.doubt is Doubt.CONTENT_NOT_READ for reason in verdict_of(asked).reasons), 1)
+                    self.assertRegex(said, r"left out: \d+ lines? at the ends of 1 cutting-plane line without letters|lines of exploded dimensions")
+
+    def test_arrows_without_letters_make_no_doubt_where_no_section_is(self) -> None:
+        maker = Maker(PART)
+        maker.draw_views()
+        maker.cutting_line(form_of("letter=none"))
+        maker.doc.saveas(self.file)
+        self.assertEqual(self.drawn()[0].reasons, ())
 
     def one(self, form: "Form", kinds: tuple[str, ...]) -> None:
         """A sheet with a section that is read: its layers are those of the definition, and told."""

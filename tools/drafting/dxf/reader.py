@@ -144,6 +144,8 @@ class Sheet:
         # Centre lines, and lines on layers that are named for cutting-plane lines.
         self.chains: list[Edge] = []
         self.kept: list[Kept] = []
+        # The arrow heads of cutting-plane lines without letters.
+        self.unlettered: list[Source] = []
         # Of lines drawn as strokes: strokes that may be anything, hidden lines whose ends are a guess, and lines no longer than a stroke.
         self.unclear: list[Unread] = []
         self.guessed: list[Edge] = []

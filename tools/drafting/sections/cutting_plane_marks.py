@@ -20,6 +20,8 @@ LETTER = re.compile(r"[^\W\d_]\d?['′]?")
 NEAR, LONG, TOUCHING = 3, 8, 0.2
 # How many times as long as wide a filled shaft is at least, and how many tolerances two places are apart at most that are meant to be one.
 THICK, NOISE = 4, 3
+# How straight across its line an arrow points; and of how many centre lines and heads ends without letters are looked for.
+STRAIGHT, MOST_CHAINS, MOST_HEADS = 0.99, 200, 200
 # How far from a quarter of a circle an arc of a hatch may end, in degrees.
 WHOLE = 0.1
 
@@ -224,6 +226,28 @@ def marks_of(sheet: Sheet, edges: Sequence[Edge], others: Sequence[Arrow], label
             marks[letter].append(Mark(letter, word, head))
     found = [mark for letter, its in marks.items() if letter in labels or len(its) == 2 and its[0].head != its[1].head for mark in its]
     return [mark._replace(strokes=tuple(strokes_of(mark, edges, sheet.chains, tolerance))) for mark in found]
+
+
+def unlettered(sheet: Sheet, edges: Sequence[Edge], others: Sequence[Arrow], tolerance: float) -> list[Mark]:
+    """The ends of cutting-plane lines without letters: arrow heads that point the same way, each beside one end of a centre line and across it."""
+    heads = [head for head in heads_of(sheet, edges, others, tolerance) if head.points] if sheet.chains else []
+    found: list[Mark] = []
+    for chain in sheet.chains[:MOST_CHAINS] if len(heads) <= MOST_HEADS else ():
+        (a, b), (c, d), length = chain.start, chain.end, math.dist(chain.start, chain.end) or 1.0
+        along = (c - a) / length, (d - b) / length
+        ends = [[it for it in heads if across(it, along) and distance(it.box, end) <= NEAR * it.size] for end in (chain.start, chain.end)]
+        if [len(its) for its in ends] == [1, 1] and ends[0][0] != ends[1][0] and across(ends[0][0], along) == across(ends[1][0], along):
+            found += [Mark("", Word("", place, head.size, head.source), head) for place, (head,) in zip((chain.start, chain.end), ends)]
+    return [mark._replace(strokes=tuple(strokes_of(mark, edges, sheet.chains, tolerance))) for mark in found]
+
+
+def across(head: Head, way: Place) -> int:
+    """To which side of a way a head points, straight across it: 1 or -1; 0 where it doesn't."""
+    if not head.points:
+        return 0
+    (a, b), (c, d) = head.points
+    turn = (way[0] * (d - b) - way[1] * (c - a)) / (math.dist(*head.points) or 1)
+    return round(turn) if abs(turn) > STRAIGHT else 0
 
 
 def is_loose(edge: Edge, end: Place, edges: Sequence[Edge], tolerance: float) -> bool:

@@ -20,14 +20,14 @@ from ..core import page as documents, notes as noted
 from ..core.advice import Advisable
 from ..core.messages import Refused, many, say, write_result
 from ..core.notes import Note, Tell
-from ..core.verdict import Reason
+from ..core.verdict import Doubt, Reason
 from ..dxf.drawing import FREECAD, MILLIMETRES, VIEWS, Origin, Stroke, places_of, written
 from ..dxf.reader import Edge, Sheet, Unread, read_sheet, where
 from ..dxf.styles import Choice, Style, choice_of
 from ..geometry.segments import MOST_DECIMALS, At, Measure, Run, apart, fits, hidden_by, measure_of, runs_of
 from ..messages.controls import command, option, without
 from ..sections import layers as section_views
-from ..sections.cutting_plane_marks import Mark, marks_of, without_marks, words_of as words_of_sheet
+from ..sections.cutting_plane_marks import Mark, marks_of, unlettered, without_marks, words_of as words_of_sheet
 from ..sections.recognize import labels_of, sections_of
 from . import noise, outlines, scale, strokes, titles, two_views, view_files
 from .back_to_sheet import Paper
@@ -210,7 +210,14 @@ def without_annotations(sheet: Sheet, tolerance: float, tell: Tell) -> list[Mark
         letters = ", ".join(dict.fromkeys(f"{mark.letter}-{mark.letter}" for mark in marks))
         lines = len(kept) - len(sheet.edges)
         tell(noted.left_out(f"{many(lines, 'line')} at the ends of the cutting-plane lines {letters}", lines))
-    gone = {head.source for head in heads} | {mark.head.source for mark in marks}
+    # Some of these may have been taken for dimensions, which are apart as well.
+    more = unlettered(sheet, sheet.edges, (), tolerance) if not marks and not labels else []
+    if more:
+        lines, sheet.edges = len(sheet.edges), without_marks(sheet.edges, more)
+        lines -= len(sheet.edges)
+        sheet.unlettered = [mark.head.source for mark in more]
+        tell(noted.left_out(f"{many(lines, 'line')} at the ends of {many(len(more) // 2, 'cutting-plane line')} without letters", lines))
+    gone = {head.source for head in heads} | {mark.head.source for mark in (*marks, *more)}
     sheet.unread = [it for it in sheet.unread if it.source not in gone]
     return marks
 
@@ -613,8 +620,15 @@ def drawn_views(
                   lambda source: where(source, path), is_turned(arguments))
     text = comments + written({**views, **layers}, measure.decimals, origin)
     return Drawn(text, measure.decimals, origin, paper, page=sheet.page, has_sections=bool(layers),
-                 reasons=strokes.reasons_of(sheet, [group.box for group in placed.views.values()]),
+                 reasons=(*strokes.reasons_of(sheet, [group.box for group in placed.views.values()]), *of_sections(sheet, placed, bool(layers))),
                  angle=placed.angle, angle_by=placed.angle_by)
+
+
+def of_sections(sheet: Sheet, placed: Placed, are_read: bool) -> Iterator[Reason]:
+    """What is left open by a section that is left out, since the ends of its cutting-plane line have no letters."""
+    if sheet.unlettered and placed.sections and not are_read:
+        yield Reason(Doubt.CONTENT_NOT_READ, "Not checked: whether the solids have what the section shows. Its cutting-plane line has no letters, so the "
+                     "section was left out.", (("sections", len(placed.sections)),))
 
 
 def least_of(strokes: Sequence[Stroke]) -> tuple[int, int]:
