@@ -166,10 +166,13 @@ class SectionSheets(unittest.TestCase):
         folder = tempfile.TemporaryDirectory()
         self.addCleanup(folder.cleanup)
         self.file = pathlib.Path(folder.name) / "sheet.dxf"
+        # The angle that the user says, where the views of a sheet may be read in both.
+        self.angle = ""
 
     def asked(self, *words: str) -> tuple[pipeline.Asked, str]:
         """What comes of the sheet, and what is said."""
         said: list[str] = []
+        words = (*(("--angle", self.angle) if self.angle else ()), *words)
         return pipeline.ask(str(self.file), PARSER.parse_args(["solve", str(self.file), *words]), in_words(said)), "\n".join(said)
 
     def drawn(self) -> tuple[sheet.Drawn, str]:
@@ -300,7 +303,8 @@ class SectionSheets(unittest.TestCase):
         while found.total() < count:
             cells = random_part(rng)
             forms = random_forms(rng, cells)
-            maker = Maker(cells, *rng.choice((("third", False), ("third", False), ("first", True), ("third", True), ("first", False))))
+            self.angle, is_left = rng.choice((("third", False), ("third", False), ("first", True), ("third", True), ("first", False)))
+            maker = Maker(cells, self.angle, is_left)
             if found.total() % EVERY:
                 name, form = rng.choice(list(OTHERWISE)), forms[0]
                 if self.draw_otherwise(maker, name, form, rng):
@@ -360,7 +364,7 @@ class SectionSheets(unittest.TestCase):
             return "refused"
         left = [cells_of(solid) for solid in asked.answer().solids]
         if not left:
-            arguments = PARSER.parse_args(["solve", str(self.file)])
+            arguments = PARSER.parse_args(["solve", str(self.file), "--angle", self.angle])
             arguments.sections = bool(shown_in(asked.lines))
             return "none, why is said" if ruled_out.told(asked, arguments) + ruled_out.may_be_sections(asked, arguments) else "none"
         return "wrong" if cells not in left else "right" if len(left) == 1 else "among several"

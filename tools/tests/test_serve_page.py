@@ -132,7 +132,7 @@ class Table(Opened):
             self.browser.key("Enter")
             self.browser.until("/was stopped/.test(document.querySelector('.told').innerText)", PATIENCE)
             count = self.value("viewer.model.count")
-            self.assertIn(f"stopped: {count:,} solids found", self.text(".told"))
+            self.assertIn(f"At least {count:,} solids match this drawing", self.text(".told"))
             self.assertEqual(self.value("new Set(Array.from({length: viewer.model.count}, (_, number) => viewer.choiceOf(number))).size"), count)
             self.browser.until(IS_OVER, PATIENCE)
             self.picture("stopped")

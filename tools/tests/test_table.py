@@ -213,7 +213,7 @@ class Tables(unittest.TestCase):
     def test_what_is_refused(self) -> None:
         self.fill("unit_cube")
         options = (("--jobs", "many"), ("--sshlogin", "-"), ("--memory", 1), ("--state", self.folder / "cut.dxf"))
-        for words in ((EXAMPLES / "none",), (TOOLS,), *((self.folder, *option) for option in options)):
+        for words in ((EXAMPLES / "none",), (TOOLS / "drafting",), *((self.folder, *option) for option in options)):
             ended = made(*words)
             self.assertEqual((ended.status, ended.rows), (1, {}), words)
             self.assertRegex(ended.said, "(?s).*draft table: ")

@@ -209,7 +209,7 @@ class Asked(InAFolder):
             ended = draft("stl", file, number)
             self.assertEqual(draft("triangles", volume, data=ended.out.encode()).status, 0, (number, ended.said))
         ended = draft("page", file)
-        self.assertIn("Two views: 4 solids have them.", ended.out)
+        self.assertIn("4 solids match this drawing. All are listed.", ended.out)
 
     @needs_command("clingo", "gringo")
     def test_judge_and_why(self) -> None:
