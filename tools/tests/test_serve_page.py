@@ -192,7 +192,7 @@ class Table(Opened):
             (self.folder / name).write_bytes(data)
             self.browser.drop(self.folder / name)
             words = "document.querySelector('.told').innerText + document.querySelector('.failed').innerText"
-            self.browser.until(f"/Not read|has a fault/.test({words})", PATIENCE)
+            self.browser.until(f"/Not read|Not taken|has a fault/.test({words})", PATIENCE)
             self.browser.until("document.querySelector('.progress').hidden", PATIENCE)
         self.drop_example("unit_cube")
         self.assertIn("One solid matches", self.text(".told"))

@@ -81,8 +81,7 @@ class Viewer(Opened):
         self.drop(self.made(2))
         self.browser.until(IS_OVER, PATIENCE)
         self.assertEqual(self.text(".verdict .word"), "Not decided")
-        self.assertIn("at its limit of 100 solids", self.text(".verdict .count"))
-        self.assertIn("at least 100 solids", self.text(".verdict .then"))
+        self.assertIn("The search stopped at “Most solids” 100. At least 100 solids match.", self.text(".verdict .count"))
         self.press(button("STL", ".solids figure:nth-child(2)"))
         triangles = triangles_of(self.file_saved("voids_2_2.stl").decode())
         # An edge at which parts touch along it alone is there twice, each way.

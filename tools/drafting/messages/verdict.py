@@ -40,6 +40,12 @@ def sentence(verdict: Verdict) -> str:
     return "no solid was found, and some may match this drawing."
 
 
+def sentence_alone(verdict: Verdict) -> str:
+    """The same where it stands by itself. Why nothing was read may begin with the name of a file, which stays as it is."""
+    text = sentence(verdict)
+    return text if verdict.kind is Kind.NOT_READ else text[:1].upper() + text[1:]
+
+
 def headline(verdict: Verdict) -> str:
     """The verdict's first line, the same in every place."""
     return f"{word(verdict)}: {sentence(verdict)}"

@@ -61,8 +61,8 @@ def excerpt(lines: list[str], named: int, whole: tuple[int, int] | None) -> str:
 def verdict_told(its: Verdict, more: str = "") -> str:
     """What the user came for, large: the verdict in a word, and as a sentence; below it, what leaves it open and what to do. The page's scripts fill
     the last line, where they know more."""
-    first, *rest = in_words.sentence(its).split("\n")
-    text = html.escape(first[:1].upper() + first[1:].rstrip(".")) + "."
+    first, *rest = in_words.sentence_alone(its).split("\n")
+    text = html.escape(first.rstrip(".")) + "."
     why = "".join(paragraph(html.escape(line.strip()), "reason") for line in [*rest, *in_words.reasons(its), *in_words.advice(its)])
     return (f'<div class="verdict {STYLES[its.kind]}"><p class="word">{in_words.word(its)}</p><p class="count">{text}</p>'
             f'<p class="then">{more}</p></div>{why}')

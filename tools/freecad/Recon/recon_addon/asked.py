@@ -64,8 +64,8 @@ class Asking:
             raise Refused(its.message)
         for text in in_words.details(asked.rounds) if asked.rounds else ():
             tell(told=text)
-        sentence = in_words.sentence(its)
-        told = [sentence[:1].upper() + sentence[1:], *in_words.reasons(its), *in_words.advice(its)]
+        sentence = in_words.sentence_alone(its)
+        told = [sentence, *in_words.reasons(its), *in_words.advice(its)]
         told += [in_words.next_step(its)] if its.kind is Kind.IMPOSSIBLE else []
         lacking = [view.label for view in asked.page.lacking] if asked.page else []
         is_whole = not any(it.doubt is Doubt.SEARCH_STOPPED for it in its.reasons)
