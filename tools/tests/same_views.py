@@ -1,5 +1,6 @@
-"""Groups of different solids that have the same views: boxes, cylinders and rounds, made by FreeCAD. A family makes candidates, which are drawn along each
-of the three axes, as people draw: lines that go on are joined, and a visible line hides the hidden ones under it. Those that are drawn alike are a group."""
+"""Groups of different solids that have the same views: boxes, cylinders and rounds, made by FreeCAD. A family makes candidates, which are drawn
+along each of the three axes, as people draw: lines that go on are joined, and a visible line hides the hidden ones under it. Those that are drawn
+alike are a group."""
 import itertools
 import math
 import pathlib
@@ -72,20 +73,16 @@ def write(look: Look, file: pathlib.Path) -> None:
     doc.header["$INSUNITS"] = 4
     if "HIDDEN" not in doc.linetypes:
         doc.linetypes.add("HIDDEN", [0.375, 0.25, -0.125])
-    front, side = extents(look[0]), extents(look[2])
-    places = (100 - front[0], 100.0), (100 - front[0], 100 + front[3] + GAP - extents(look[1])[1]), (100 + front[2] - front[0] + GAP - side[0], 100.0)
+    places = (100.0, 100.0), (100.0, 100 + reach(look[0], 1) + GAP), (100 + reach(look[0], 0) + GAP, 100.0)
     for stretches, place in zip(look, places):
         for stretch in sorted(stretches):
             add(doc.modelspace(), stretch, place)
     doc.saveas(file)
 
 
-def extents(stretches: Iterable[Stretch]) -> tuple[float, float, float, float]:
-    ends = [end for it in stretches for end in ends_of(it)]
-    ends += [(x + a * r, y + b * r) for (x, y, r), *_ in (it for it in stretches if len(it[0]) == 3) for a, b in ((1, 0), (0, 1), (-1, 0), (0, -1))
-             if any(math.dist((x + a * r, y + b * r), end) < 1 for end in ends)] if ends else []
-    xs, ys = zip(*ends)
-    return min(xs), min(ys), max(xs), max(ys)
+def reach(stretches: Iterable[Stretch], at: int) -> float:
+    """How far a view reaches to the right, or upwards, at most."""
+    return max(max(it[0][at] + it[0][2] if len(it[0]) == 3 else 0.0, *(end[at] for end in ends_of(it))) for it in stretches)
 
 
 def ends_of(stretch: Stretch) -> list[Plan]:
@@ -112,8 +109,8 @@ def add(space: Any, stretch: Stretch, place: Plan) -> None:
 
 
 def groups_of(candidates: Iterable[Any], axis: int = 2) -> list[Group]:
-    """The groups among some candidates, each of at least two different solids, whose own third axis is turned to one: TOP, FRONT or SIDE then sees them as
-    they are seen from above."""
+    """The groups among some candidates, each of at least two different solids, whose own third axis is turned to one: TOP, FRONT or SIDE then sees
+    them as they are seen from above."""
     groups: dict[Look, list[Any]] = defaultdict(list)
     for shape in (turned(it, axis) for it in candidates):
         members = groups[look_of(shape)]
@@ -195,7 +192,7 @@ def shelves_of_mixed_radii(count: int) -> Iterable[Any]:
 def lugs(count: int) -> Iterable[Any]:
     """Lugs on a wall, whose ends are round or square."""
     for its in chosen((0, 6), count):
-        ends = [box(0, 0, 0, 18, 12, 4).fuse(cylinder(2, (18, 6), 0, 4, 6)).removeSplitter() if radius else box(0, 0, 0, 24, 12, 4) for radius in its]
+        ends = [fused([box(0, 0, 0, 18, 12, 4), cylinder(2, (18, 6), 0, 4, 6)]) if radius else box(0, 0, 0, 24, 12, 4) for radius in its]
         yield stack(ends, [box(-6, -4, 0, 0, 16, 8 * count - 4)])
 
 
@@ -212,7 +209,8 @@ def bored(radius: float, cover: float, count: int) -> Iterable[Any]:
     lid = box(0, 0, top, 40, 40, top + 4)
     more = [box(0, 34, 0, 40, 40, top + 4), lid.cut(cylinder(2, (20, 16), top, top + 4, cover)) if cover else lid]
     for its in chosen((True, False), count):
-        tools = [cylinder(2, (20, 16), 0, 4, radius) if is_round else box(20 - radius, 16 - radius, 0, 20 + radius, 16 + radius, 4) for is_round in its]
+        square = box(20 - radius, 16 - radius, 0, 20 + radius, 16 + radius, 4)
+        tools = [cylinder(2, (20, 16), 0, 4, radius) if is_round else square for is_round in its]
         yield stack([box(0, 0, 0, 40, 40, 4).cut(tool) for tool in tools], more)
 
 
@@ -244,20 +242,26 @@ def cheeks(count: int) -> Iterable[Any]:
         yield stack([box(0, 0, 0, 40, 34, 4).cut(tool) for tool in tools], [box(-8, -4, -6, 48, 0, 8 * count + 2)])
 
 
+def covered(count: int) -> list[Any]:
+    """A wall behind some plates, and a cover above them."""
+    return [box(0, 26, 0, 40, 30, 8 * count + 4), box(0, 0, 8 * count, 40, 30, 8 * count + 4)]
+
+
 @family
 def slots(count: int) -> Iterable[Any]:
     """Plates under a cover, with slots whose ends are round or square."""
     for its in chosen((0, 1), count):
-        tools = [box(8, 12, 0, 32, 20, 4) if not end else fused([box(12, 12, 0, 28, 20, 4), cylinder(2, (12, 16), 0, 4, 4), cylinder(2, (28, 16), 0, 4, 4)])
+        rounded = fused([box(12, 12, 0, 28, 20, 4), cylinder(2, (12, 16), 0, 4, 4), cylinder(2, (28, 16), 0, 4, 4)])
+        tools = [rounded if end else box(8, 12, 0, 32, 20, 4)
                  for end in its]
-        yield stack([box(0, 0, 0, 40, 30, 4).cut(tool) for tool in tools], [box(0, 26, 0, 40, 30, 8 * count + 4), box(0, 0, 8 * count, 40, 30, 8 * count + 4)])
+        yield stack([box(0, 0, 0, 40, 30, 4).cut(tool) for tool in tools], covered(count))
 
 
 @family
 def slots_with_one_round_end(count: int) -> Iterable[Any]:
     for its in chosen((0, 1), count):
         tools = [box(8, 12, 0, 32, 20, 4) if not end else fused([box(8, 12, 0, 28, 20, 4), cylinder(2, (28, 16), 0, 4, 4)]) for end in its]
-        yield stack([box(0, 0, 0, 40, 30, 4).cut(tool) for tool in tools], [box(0, 26, 0, 40, 30, 8 * count + 4), box(0, 0, 8 * count, 40, 30, 8 * count + 4)])
+        yield stack([box(0, 0, 0, 40, 30, 4).cut(tool) for tool in tools], covered(count))
 
 
 @family
@@ -265,14 +269,14 @@ def corners_of_pockets(count: int) -> Iterable[Any]:
     """Plates under a cover with windows, of which one corner is round or sharp."""
     for its in chosen((ROUND, SHARP), count):
         tools = [cornered(kind, box(8, 6, 0, 32, 22, 4), (8, 6)) for kind in its]
-        yield stack([box(0, 0, 0, 40, 30, 4).cut(tool) for tool in tools], [box(0, 26, 0, 40, 30, 8 * count + 4), box(0, 0, 8 * count, 40, 30, 8 * count + 4)])
+        yield stack([box(0, 0, 0, 40, 30, 4).cut(tool) for tool in tools], covered(count))
 
 
 @family
 def all_corners_of_pockets(count: int) -> Iterable[Any]:
     for its in chosen((3, 0), count):
         tools = [filleted(box(8, 6, 0, 32, 22, 4), radius, 2) if radius else box(8, 6, 0, 32, 22, 4) for radius in its]
-        yield stack([box(0, 0, 0, 40, 30, 4).cut(tool) for tool in tools], [box(0, 26, 0, 40, 30, 8 * count + 4), box(0, 0, 8 * count, 40, 30, 8 * count + 4)])
+        yield stack([box(0, 0, 0, 40, 30, 4).cut(tool) for tool in tools], covered(count))
 
 
 @family
@@ -288,7 +292,7 @@ def fillets_in_corners(count: int) -> Iterable[Any]:
     """Angles under a cover, whose inner corner has a fillet or not."""
     for its in chosen((True, False), count):
         plates = [box(0, 0, 0, 30, 8, 4).fuse(box(0, 0, 0, 8, 30, 4)).removeSplitter() for _ in its]
-        made = [filleted(plate, 6, 2, lambda point: math.dist((point.x, point.y), (8, 8)) < 1e-6) if has else plate for has, plate in zip(its, plates)]
+        made = [cornered(ROUND if has else SHARP, plate, (8, 8)) for has, plate in zip(its, plates)]
         yield stack(made, [box(0, 0, 0, 4, 4, 8 * count + 4), box(-4, -4, 8 * count, 34, 34, 8 * count + 4)])
 
 
@@ -363,7 +367,8 @@ def sections_of_a_shaft(count: int) -> Iterable[Any]:
         its_all = [cylinder(2, (20, 20), 0, 4, 14)]
         for number, is_round in enumerate(its):
             low = 4 + 12 * number
-            its_all += [cylinder(2, (20, 20), low, low + 8, 7) if is_round else box(13, 13, low, 27, 27, low + 8), cylinder(2, (20, 20), low + 8, low + 12, 14)]
+            its_all += [cylinder(2, (20, 20), low, low + 8, 7) if is_round else box(13, 13, low, 27, 27, low + 8)]
+            its_all += [cylinder(2, (20, 20), low + 8, low + 12, 14)]
         yield fused(its_all)
 
 

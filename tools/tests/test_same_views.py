@@ -1,4 +1,5 @@
-"""Of different solids with the same views each is listed, or the verdict says why it isn't decided; and parts of which there is one get no such reason."""
+"""Of different solids with the same views each is listed, or the verdict says why it isn't decided; and parts of which there is one get no such
+reason."""
 import pathlib
 import tempfile
 import unittest
@@ -16,7 +17,7 @@ from .support import needs_long, needs_module, needs_program
 if not test_rounds.missing:
     from . import rounded_parts as parts
     from . import same_views
-    from .rounded_parts import box, chamfered, cylinder, filleted
+    from .rounded_parts import box, chamfered, cylinder, filleted, prism
 
 # By family the axis along which it is looked at, and of how many plates, or holes in a row, it is made; and how many solids each of its groups has.
 QUICK: tuple[tuple[str, int, int, list[int]], ...] = (
@@ -26,7 +27,7 @@ QUICK: tuple[tuple[str, int, int, list[int]], ...] = (
     ("pillars", 2, 2, [2]), ("sections_of_a_shaft", 0, 2, [2]),
 )
 # Families whose groups take three plates.
-OF_THREE = ("shelves_in_sight", "lugs", "lugs_with_bores", "shelves_of_mixed_radii", "openings_under_a_round_hole", "cheeks", "openings_upon_each_other")
+OF_THREE = ("shelves_in_sight", "lugs", "lugs_with_bores", "shelves_of_mixed_radii", "cheeks", "openings_upon_each_other")
 LEAST_GROUPS, SEEDS = 40, range(20)
 
 
@@ -81,6 +82,10 @@ class OfOneSolid(test_rounds.InAFolder):
             filleted(block, 8, 2).cut(box(0, 10, 12, 60, 16, 20)),
             chamfered(chamfered(block, 5, 2, lambda it: it.x < 1 and it.y < 1), 4, 1, lambda it: it.x > 59 and it.z > 19),
             cylinder(0, (20, 20), 0, 60, 12).cut(box(30, 0, 26, 60, 40, 40)),
+            # A hub whose bore is cut by a slot; and a ramp, in which a slot ends.
+            cylinder(2, (25, 25), 0, 10, 25).fuse(cylinder(2, (25, 25), 10, 30, 14)).cut(cylinder(2, (25, 25), 0, 30, 8))
+            .cut(box(23, 0, 20, 27, 50, 30)).removeSplitter(),
+            prism(1, [(0, 0), (60, 0), (60, 10), (30, 25), (0, 25)], 0, 40).cut(box(20, 10, 18, 60, 30, 25)),
         ]
 
     def test_no_other_layers_are_told(self) -> None:

@@ -160,7 +160,8 @@ def along_sides(its: Sequence[Drawn], looking: Looking) -> Iterator[Sample]:
             off = min(off, BESIDE * min(map(width, its)), (end - begin) / 2)
             if off <= looking.noise:
                 continue
-            places = [(at, middle) if across == 0 else (middle, at) for at in (corner[across] - sign * off, corner[across], corner[across] + sign * off)]
+            ways = (corner[across] + way * off for way in (-sign, 0, sign))
+            places = [(at, middle) if across == 0 else (middle, at) for at in ways]
             if found := looking.sample((places[0], places[2]), places[1], Along.UPRIGHT if across == 0 else Along.LEVEL):
                 yield found
 
@@ -302,8 +303,8 @@ def choices_of(numbers: Sequence[int], found: Sequence[Drawn], looking: Looking)
 
 
 def may_go_over(its: Sequence[Drawn], looking: Looking) -> bool:
-    """Whether a round may go over into a sharp corner where the solid doesn't: its view draws the corner, and both views from the side a line at a depth
-    that may be just as long as the corner's box is wide."""
+    """Whether a round may go over into a sharp corner where the solid doesn't: its view draws the corner, and both views from the side a line at a
+    depth that may be just as long as the corner's box is wide."""
     box = min(its, key=width).quarter.box
     corner, middle = its[0].quarter.corner, ((box[0] + box[2]) / 2, (box[1] + box[3]) / 2)
     sides = ((corner[0], middle[1]), Along.UPRIGHT), ((middle[0], corner[1]), Along.LEVEL)
@@ -314,8 +315,8 @@ def may_go_over(its: Sequence[Drawn], looking: Looking) -> bool:
 
 def may_end(it: Drawn) -> Reason:
     """A round may go over into a sharp corner at some depth."""
-    return Reason(Doubt.LAYERS_NOT_TRIED, f"Not checked: the {it.one} may go over into a square at a depth at which the views from the side draw a line.",
-                  (("count", None), ("tried", 1)))
+    return Reason(Doubt.LAYERS_NOT_TRIED, f"Not checked: the {it.one} may go over into a square at a depth at which the views from the side draw a "
+                  "line.", (("count", None), ("tried", 1)))
 
 
 def layers_of(by_depth: Mapping[int, int], whole: Chosen, depths: Sequence[tuple[int, int]]) -> Chosen:
