@@ -31,14 +31,15 @@ class Shelves(unittest.TestCase):
     it; in tenths. The solid may have other coordinates too."""
 
     def choices(self, arc: bool, sides: bool, is_cut_off: bool = False, level: tuple[int, ...] = (), across: float = 0) -> Choices:
-        quarter: Quarter | Slant = Slant((6, 6), (10, 10)) if is_cut_off else Quarter((6, 6), 4, 1, 1)
-        one: Squared | Chamfer = Chamfer("TOP", quarter) if isinstance(quarter, Slant) else Squared("TOP", (6, 6), 4, (quarter,), False)
+        layers = Layer(0, 20, True), Layer(40, 60, True)
+        quarter, slant = Quarter((6, 6), 4, 1, 1), Slant((6, 6), (10, 10))
+        as_round = Drawn(Squared("TOP", (6, 6), 4, (quarter,), False), quarter, layers)
         lines = [Edge(True, (0, 10), (10 if sides else 6, 10), 7, NOWHERE), Edge(True, (10, 0), (10, 10 if sides else 6), 7, NOWHERE)]
         lines += [Edge(True, (10, 6), (6, 10), 7, NOWHERE)] if is_cut_off and arc else []
         beside = [Edge(True, (across, 2), (10, 2), 7, NOWHERE)]
         arcs = [Arc(True, (6, 6), 4, 0, 90, NOWHERE)] if arc and not is_cut_off else []
         given = Given([], {"TOP": lines, "FRONT": beside, "SIDE": beside}, {"TOP": arcs}, [], [], [])
-        found = [Drawn(one, quarter, (Layer(0, 20, True), Layer(40, 60, True)))]
+        found = [Drawn(Chamfer("TOP", slant), slant, layers) if is_cut_off else as_round]
 
         def is_full(at: tuple[float, float, float]) -> bool:
             x, y, z = at

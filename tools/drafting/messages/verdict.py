@@ -41,7 +41,7 @@ def sentence(verdict: Verdict) -> str:
 
 
 def sentence_alone(verdict: Verdict) -> str:
-    """The same where it stands by itself. Why nothing was read may begin with the name of a file, which stays as it is."""
+    """The same as a sentence of its own. Why nothing was read may begin with the name of a file, which isn't changed."""
     text = sentence(verdict)
     return text if verdict.kind is Kind.NOT_READ else text[:1].upper() + text[1:]
 
